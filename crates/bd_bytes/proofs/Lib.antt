@@ -1,0 +1,5 @@
+pub mod Bits
+pub mod Checksum
+pub mod Division
+pub mod NumberLemmas
+pub mod Polynomial

@@ -1,0 +1,5 @@
+use Rattle.std.specs.Prelude.{ℕ, ◌<◌, List, slice_index}
+
+-- each number of the list is a byte's
+abbrev pub IsBytes : List ℕ → Type 0
+IsBytes xs = (i : ℕ) → slice_index xs i < 256
