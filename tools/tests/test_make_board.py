@@ -190,7 +190,7 @@ class Refusals(BoardTest):
             ("2A=0x10", "a decimal of 0 to 65535"),
             ("2C=D", "two letters"),
             ("2C=DEU", "two letters"),
-            ("2C=D1", "two letters"),
+            ("2C=U5", "two letters"),
             ("FD=0", "hexadecimal digits in pairs"),
             ("FD=00 11", "hexadecimal digits in pairs"),
             ("30=xy", "hexadecimal digits in pairs"),

@@ -313,10 +313,14 @@ class Media(ProgramTest):
         os.mkfifo(places[1])
         places[2].symlink_to("nowhere")
         places[3].symlink_to("target")
-        places[4].symlink_to(places[4].name)
-        places[5].symlink_to(places[1].name)
-        places[6].symlink_to(places[0].name)
+        places[4].symlink_to(places[1].name)
+        places[5].symlink_to(places[0].name)
         self.check(0, lines("usb0", {NAMES[3]: "7 bytes"}))
+
+    def test_link_to_itself(self) -> None:
+        self.make("--file=usb0/onie-installer=x")
+        (self.media / "usb0" / NAMES[0]).symlink_to(NAMES[0])
+        self.check(0, lines("usb0", {"onie-installer": "1 bytes"}))
 
     def test_largest_file(self) -> None:
         """A file of 33,554,432 bytes is found, and one of a byte more is too large."""
