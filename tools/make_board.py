@@ -1,4 +1,3 @@
-#!/usr/bin/env python3
 """Makes a board folder for `onie`: an identity EEPROM `eeprom.bin`, and `media/` with volumes."""
 
 from __future__ import annotations
