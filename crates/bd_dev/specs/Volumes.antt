@@ -1,5 +1,5 @@
 -- Volumes of named files, as removable media hold them.
-use Rattle.std.specs.Prelude.{◌≡◌, ℕ, ◌-◌, ◌<◌, ◌≤◌, List, [], ◌∷◌, ◌++◌, map, length, take, drop, Option, Some, unwrap_or, option_map, find, Contains}
+use Rattle.std.specs.Prelude.{◌≡◌, ◌≢◌, ℕ, ◌-◌, ◌<◌, ◌≤◌, List, [], ◌∷◌, ◌++◌, map, length, take, drop, Option, Some, unwrap_or, option_map, find, Contains}
 use Rattle.std.specs.Option.{ForSome, option_and_then}
 use Rattle.std.specs.Str.{bytes_eq}
 use Rattle.bd_dev.specs.Calls.{Calls}
@@ -51,6 +51,11 @@ pub record IsPiece (file : List ℕ) (at n : ℕ) (out : List ℕ) : Type 0 wher
 pub record GivesBytes (content : Option (List Volume)) (volume name : List ℕ) (at n : ℕ) (out : List ℕ) : Type 0 where
   pub fits : n ≤ length out
   pub told : ForSome content (λ volumes. IsPiece (bytes_of volumes volume name) at n out)
+
+-- the file of this name has these bytes now, and every other file of the volume is as before
+pub record PutsFile (old new : List File) (name bytes : List ℕ) : Type 0 where
+  pub put : file_in new name ≡ Some bytes
+  pub others : (f : List ℕ) → f ≢ name → file_in new f ≡ file_in old f
 
 -- this file has these bytes now, every other file is as before, and a volume that is new comes last
 pub record AddsFile (old new : List Volume) (volume name bytes : List ℕ) : Type 0 where

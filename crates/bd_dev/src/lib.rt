@@ -12,13 +12,18 @@ mod eeprom;
 mod faults;
 mod media;
 mod mem_eeprom;
+mod mem_media;
 mod mem_sink;
+mod mem_volumes;
 mod sink;
+#[cfg(test)]
+mod tests;
 
 pub use bytes::{Bytes, Memory, Names};
 pub use eeprom::Eeprom;
 pub use faults::{DevFault, Failed};
 pub use media::Media;
 pub use mem_eeprom::MemEeprom;
+pub use mem_media::MemMedia;
 pub use mem_sink::MemSink;
 pub use sink::{Sink, write_all};
