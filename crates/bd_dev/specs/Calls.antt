@@ -19,4 +19,5 @@ IsListed calls = Contains calls.fails (one_more calls.made)
 -- after one call more, which failed or not
 abbrev pub after_call : Calls → Bool → Calls
 after_call calls failed =
-    record calls { made = one_more calls.made; faults = if failed then one_more calls.faults else calls.faults }
+    let faults = if failed then one_more calls.faults else calls.faults in
+    record calls { made = one_more calls.made; faults = faults }

@@ -4,10 +4,12 @@ use Rattle.std.specs.Option.{ForSome, option_and_then}
 use Rattle.std.specs.Str.{bytes_eq}
 use Rattle.bd_dev.specs.Calls.{Calls}
 
+-- a file, by its name and its bytes
 pub record File : Type 0 where
   pub name : List ℕ
   pub bytes : List ℕ
 
+-- a volume, by its name and its files
 pub record Volume : Type 0 where
   pub name : List ℕ
   pub files : List File
@@ -48,7 +50,8 @@ pub record IsPiece (file : List ℕ) (at n : ℕ) (out : List ℕ) : Type 0 wher
   pub moves : 0 < length out → at < length file → 0 < n
 
 -- a read of n bytes into out, which are the file's where the volumes are told
-pub record GivesBytes (content : Option (List Volume)) (volume name : List ℕ) (at n : ℕ) (out : List ℕ) : Type 0 where
+pub record GivesBytes
+    (content : Option (List Volume)) (volume name : List ℕ) (at n : ℕ) (out : List ℕ) : Type 0 where
   pub fits : n ≤ length out
   pub told : ForSome content (λ volumes. IsPiece (bytes_of volumes volume name) at n out)
 
@@ -62,7 +65,8 @@ pub record AddsFile (old new : List Volume) (volume name bytes : List ℕ) : Typ
   pub added : file_of new volume name ≡ Some bytes
   pub others : (v f : List ℕ) → ¬ ((v ≡ volume) × (f ≡ name)) → file_of new v f ≡ file_of old v f
   pub known : Contains (volume_names old) volume → volume_names new ≡ volume_names old
-  pub first : ¬ (Contains (volume_names old) volume) → volume_names new ≡ volume_names old ++ volume ∷ []
+  pub first : ¬ (Contains (volume_names old) volume)
+      → volume_names new ≡ volume_names old ++ volume ∷ []
 
 -- media in memory
 pub record MediaInMemory : Type 0 where

@@ -9,7 +9,8 @@ use crate::faults::Failed;
 use std::alloc::Global;
 use std::marker::Model;
 
-/// The calls of a device: how many were made, the numbers of those that are to fail, and how many failed.
+/// The calls of a device: how many were made, the numbers of those that are to fail, and how many
+/// failed.
 #[derive(Drop)]
 pub(crate) struct CallCounter {
     made: u64,

@@ -14,7 +14,8 @@ pub trait Eeprom {
     /// The count of its faults.
     ghost faults: { Self → ℕ };
 
-    /// Puts the content at the front of `out` and gives its length in bytes, or fails and counts it.
+    /// Puts the content at the front of `out` and gives its length in bytes, or fails and counts
+    /// it.
     fn load(&mut self, out: &mut [u8; 2048]) -> Result<usize, Failed>
         ensures loaded { IfOk result (λ n. Loads (content self.old) n out.new) }
         ensures kept { content self.new ≡ content self.old }

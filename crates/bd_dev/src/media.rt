@@ -16,8 +16,8 @@ pub trait Media {
     /// The count of their faults.
     ghost faults: { Self → ℕ };
 
-    /// The names of the volumes, in order. Answers `Memory` where there is no memory for them, or fails and
-    /// counts it.
+    /// The names of the volumes, in order. Answers `Memory` where there is no memory for them, or
+    /// fails and counts it.
     fn volumes(&mut self, alloc: Global) -> Result<Names, DevFault>
         ensures named { IfOk result (ListsVolumes (content self.old)) }
         ensures kept { content self.new ≡ content self.old }
@@ -29,11 +29,12 @@ pub trait Media {
         ensures kept { content self.new ≡ content self.old }
         ensures cause { HasCause (faults self.old) (faults self.new) result };
 
-    /// Puts bytes of a file, from the place `at` on, at the front of `out` and gives how many: 0 for a
-    /// nonempty `out` only where the file ends at or before `at`. A file that isn't there has no bytes, and
-    /// that is no failure. Or fails and counts it.
+    /// Puts bytes of a file, from the place `at` on, at the front of `out` and gives how many: 0
+    /// for a nonempty `out` only where the file ends at or before `at`. A file that isn't there has
+    /// no bytes, and that is no failure. Or fails and counts it.
     fn read(&mut self, volume: &[u8], name: &[u8], at: u64, out: &mut [u8]) -> Result<usize, Failed>
-        ensures given { IfOk result (λ n. GivesBytes (content self.old) volume.now name.now at n out.new) }
+        ensures given { IfOk result
+            (λ n. GivesBytes (content self.old) volume.now name.now at n out.new) }
         ensures kept { content self.new ≡ content self.old }
         ensures cause { HasCause (faults self.old) (faults self.new) result };
 }

@@ -31,8 +31,8 @@ impl Model for MemEeprom {
 }
 
 impl MemEeprom {
-    /// An EEPROM that holds these bytes, whose calls with the numbers in `fails`, from 1, are to fail. Or
-    /// `Memory`.
+    /// An EEPROM that holds these bytes, whose calls with the numbers in `fails`, from 1, are to
+    /// fail. Or `Memory`.
     pub fn new(alloc: Global, bytes: &[u8], fails: &[u64]) -> Result<MemEeprom, Memory>
         requires { length bytes.now ≤ 2048 }
         ensures { IfOk result (λ e. e ≡ record { bytes = bytes.now; calls = no_calls fails.now }) }

@@ -32,7 +32,8 @@ impl Model for MemMedia {
 }
 
 impl MemMedia {
-    /// Media without volumes, whose calls with the numbers in `fails`, from 1, are to fail. Or `Memory`.
+    /// Media without volumes, whose calls with the numbers in `fails`, from 1, are to fail. Or
+    /// `Memory`.
     pub fn new(alloc: Global, fails: &[u64]) -> Result<MemMedia, Memory>
         ensures { IfOk result (λ m. m ≡ record { volumes = []; calls = no_calls fails.now }) }
     {
@@ -43,10 +44,11 @@ impl MemMedia {
         })
     }
 
-    /// Gives a volume this file, in place of the file of that name. A volume that is new comes last. Or
-    /// answers `Memory` and changes nothing. This is no device call.
+    /// Gives a volume this file, in place of the file of that name. A volume that is new comes
+    /// last. Or answers `Memory` and changes nothing. This is no device call.
     pub fn add(&mut self, volume: &[u8], name: &[u8], bytes: &[u8]) -> Result<(), Memory>
-        ensures added { OnOk result (AddsFile self.old.volumes self.new.volumes volume.now name.now bytes.now) }
+        ensures added { OnOk result
+            (AddsFile self.old.volumes self.new.volumes volume.now name.now bytes.now) }
         ensures uncounted { OnOk result (self.new.calls ≡ self.old.calls) }
         ensures unchanged { OnErr result (self.new ≡ self.old) }
     {
@@ -92,7 +94,8 @@ impl Media for MemMedia {
     }
 
     fn read(&mut self, volume: &[u8], name: &[u8], at: u64, out: &mut [u8]) -> Result<usize, Failed>
-        ensures given { IfOk result (λ n. GivesBytes (Some self.old.volumes) volume.now name.now at n out.new) }
+        ensures given { IfOk result
+            (λ n. GivesBytes (Some self.old.volumes) volume.now name.now at n out.new) }
         ensures kept { Some self.new.volumes ≡ Some self.old.volumes }
         ensures cause { HasCause self.old.calls.faults self.new.calls.faults result }
         ensures listed { IsErr result ↔ IsListed self.old.calls }

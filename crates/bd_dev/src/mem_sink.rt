@@ -28,8 +28,8 @@ impl Model for MemSink {
 }
 
 impl MemSink {
-    /// A sink that took nothing yet, whose calls with the numbers in `fails`, from 1, are to fail. Or
-    /// `Memory`.
+    /// A sink that took nothing yet, whose calls with the numbers in `fails`, from 1, are to fail.
+    /// Or `Memory`.
     pub fn new(alloc: Global, fails: &[u64]) -> Result<MemSink, Memory>
         ensures { IfOk result (λ s. s ≡ record { taken = []; calls = no_calls fails.now }) }
     {
@@ -54,7 +54,8 @@ impl Sink for MemSink {
 
     /// Takes all of the bytes. Fails also for want of memory.
     fn write(&mut self, bytes: &[u8]) -> Result<usize, Failed>
-        ensures taken { IfOk result (λ n. Takes (Some self.old.taken) (Some self.new.taken) n bytes.now) }
+        ensures taken { IfOk result
+            (λ n. Takes (Some self.old.taken) (Some self.new.taken) n bytes.now) }
         ensures unchanged { OnErr result (Some self.new.taken ≡ Some self.old.taken) }
         ensures cause { HasCause self.old.calls.faults self.new.calls.faults result }
         ensures listed { IsListed self.old.calls → IsErr result }
