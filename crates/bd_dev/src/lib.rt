@@ -1,0 +1,30 @@
+//! The devices that the program talks to: an EEPROM, removable media and a sink of bytes.
+//!
+//! Each is a trait whose clauses speak of what the device holds, where it tells that, and of its
+//! count of faults. Nothing else that a call does is promised: a device that tells nothing, as a
+//! real file, still keeps the bounds, and a call that answers `Failed` has counted a fault. The
+//! devices in memory hold what they were given, and fail at the calls whose numbers they were
+//! given.
+#![tactic(auto)]
+
+mod bytes;
+mod calls;
+mod eeprom;
+mod faults;
+mod media;
+mod mem_eeprom;
+mod mem_media;
+mod mem_sink;
+mod mem_volumes;
+mod sink;
+#[cfg(test)]
+mod tests;
+
+pub use bytes::{Bytes, Memory, Names};
+pub use eeprom::Eeprom;
+pub use faults::{DevFault, Failed};
+pub use media::Media;
+pub use mem_eeprom::MemEeprom;
+pub use mem_media::MemMedia;
+pub use mem_sink::MemSink;
+pub use sink::{Sink, write_all};
