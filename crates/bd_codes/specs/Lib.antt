@@ -1,0 +1,3 @@
+pub mod Codes
+pub mod Row
+pub mod TlvTable
