@@ -1,6 +1,6 @@
 //! A sink in memory.
 
-ghost use Rattle.std.specs.Prelude.{◌≡◌, [], Some, IfOk, IsErr, OnErr, is_err};
+ghost use Rattle.std.specs.Prelude.{◌≡◌, [], Some, length, IfOk, IsErr, OnErr, is_err};
 ghost use Rattle.bd_dev.specs.Calls.{IsListed, after_call, no_calls};
 ghost use Rattle.bd_dev.specs.Faults.{HasCause};
 ghost use Rattle.bd_dev.specs.Sink.{Takes};
@@ -56,6 +56,7 @@ impl Sink for MemSink {
     fn write(&mut self, bytes: &[u8]) -> Result<usize, Failed>
         ensures taken { IfOk result
             (λ n. Takes (Some self.old.taken) (Some self.new.taken) n bytes.now) }
+        ensures whole { IfOk result (λ n. n ≡ length bytes.now) }
         ensures unchanged { OnErr result (Some self.new.taken ≡ Some self.old.taken) }
         ensures cause { HasCause self.old.calls.faults self.new.calls.faults result }
         ensures listed { IsListed self.old.calls → IsErr result }

@@ -1,0 +1,78 @@
+//! An EEPROM in a file.
+
+ghost use Rattle.std.specs.Prelude.{◌≡◌, ◌≤◌, None, IfOk, length};
+
+use crate::faults::FaultCount;
+use bd_dev::{Eeprom, Failed};
+use std::fs;
+use std::io::{self, ErrorKind, Read};
+use std::marker::Model;
+use std::rt::Files;
+
+/// The EEPROM that a file holds: its first 2,048 bytes, or all of a shorter file. A clause sees it
+/// as its count of faults.
+#[derive(Drop)]
+pub struct FileEeprom<'a, R> {
+    rt: &'a R,
+    path: &'a str,
+    faults: FaultCount,
+}
+
+impl<'a, R> Model for FileEeprom<'a, R> {
+    ghost use Rattle.std.specs.Prelude.{ℕ};
+
+    ghost Value = { ℕ };
+
+    ghost view = { λ e. e.faults };
+}
+
+impl<'a, R> FileEeprom<'a, R> {
+    /// The EEPROM in the file of this path. Nothing is opened and no fault counted yet.
+    pub fn new(rt: &'a R, path: &'a str) -> FileEeprom<'a, R>
+        ensures { result ≡ 0 }
+    {
+        FileEeprom {
+            rt,
+            path,
+            faults: FaultCount::new(),
+        }
+    }
+}
+
+impl<'a, R: Files> Eeprom for FileEeprom<'a, R> {
+    ghost content = { λ _. None };
+
+    ghost faults = { λ faults. faults };
+
+    /// Opens the file anew. A missing file and each error of the system is a fault.
+    fn load(&mut self, out: &mut [u8; 2048]) -> Result<usize, Failed> {
+        let loaded = load_file(self.rt, self.path, out);
+        self.faults.counted(loaded)
+    }
+}
+
+// Opening a FIFO would wait for a writer, so only a regular file is opened.
+fn load_file<R: Files>(rt: &R, path: &str, out: &mut [u8; 2048]) -> io::Result<usize>
+    ensures { IfOk result (λ n. n ≤ 2048) }
+{
+    if !fs::metadata(rt, path)?.is_file() {
+        return Err(io::Error::from(ErrorKind::InvalidInput));
+    }
+    let mut file = fs::open(rt, path)?;
+    fill(&mut file, out)
+}
+
+// Reads until the end, or until `out` is full.
+fn fill<F: Read>(file: &mut F, out: &mut [u8]) -> io::Result<usize>
+    ensures { IfOk result (λ n. n ≤ length out.new) }
+{
+    let mut done = 0;
+    while done < out.len() {
+        let count = file.read(&mut out[done..])?;
+        if count == 0 {
+            return Ok(done);
+        }
+        done += count;
+    }
+    Ok(done)
+}

@@ -1,0 +1,16 @@
+//! The devices over real files: the trusted edge of the program.
+//!
+//! Each adapter is made from the path or the stream that it stands for. It tells no content, since
+//! no proof can say what a file holds. What is proved is what every device promises: that it
+//! answers within its bounds, and that each failure has raised its count of faults.
+#![tactic(auto)]
+
+mod eeprom;
+mod faults;
+mod media;
+mod paths;
+mod sink;
+
+pub use eeprom::FileEeprom;
+pub use media::FolderMedia;
+pub use sink::OutSink;
