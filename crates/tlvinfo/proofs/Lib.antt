@@ -1,0 +1,10 @@
+pub mod Lists
+pub mod FieldTests
+pub mod Steps
+pub mod Fields
+pub mod Spelling
+pub mod Soundness
+pub mod Completeness
+pub mod DecodeLoop
+pub mod PlatformLemmas
+pub mod Uniqueness

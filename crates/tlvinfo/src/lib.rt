@@ -1,0 +1,22 @@
+//! The identity of a board: TlvInfo data, as its EEPROM holds them.
+//!
+//! [`decode`] reads the fields of the bytes, exactly where the bytes are TlvInfo data, and else names the first
+//! fault in them. [`identity`] reads from the fields which platform the board is and its first address.
+#![tactic(auto)]
+
+mod board;
+mod codes;
+mod decoding;
+mod fault;
+mod identifying;
+mod info;
+mod platform;
+
+pub use board::{Identity, Mac};
+pub use decoding::decode;
+pub use fault::{IdentFault, TlvFault, TlvKind};
+pub use identifying::identity;
+pub use info::Info;
+
+#[cfg(test)]
+mod tests;
