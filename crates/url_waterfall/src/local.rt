@@ -1,0 +1,68 @@
+//! The candidates on local media.
+
+ghost use Rattle.std.specs.Prelude.{◌≡◌, map, fold, IfOk, OnOk};
+ghost use Rattle.tlvinfo.specs.IdentityView.{board_of};
+ghost use Rattle.url_waterfall.specs.Candidates.{local_file, files_named, local_files};
+ghost use Rattle.url_waterfall.specs.Firsts.{firsts, with_new, KeepsFirsts};
+
+use crate::candidate::{Candidate, push_new};
+use crate::mode::Mode;
+use crate::naming::names;
+use bd_dev::{Bytes, Memory, Names};
+use std::alloc::Global;
+use tlvinfo::Identity;
+
+/// The volume of the files that the network serves, which is no local medium.
+const NETWORK: &[u8] = b"net";
+
+/// Puts each name in the volume at the end, unless its text is shown already.
+fn push_volume(
+    alloc: Global,
+    list: &mut Vec<Candidate>,
+    names: &[Bytes],
+    volume: &[u8],
+) -> Result<(), Memory>
+    ensures { OnOk result
+        (list.new.items ≡ fold with_new list.old.items (map (local_file volume.now) names.now)) }
+{
+    for name in names {
+        push_new(list, Candidate::local(alloc, volume, name.as_slice())?)?;
+    }
+    Ok(())
+}
+
+/// Each of the names in each volume but the network's, each text once.
+fn list_files(alloc: Global, names: &[Bytes], volumes: &[Bytes]) -> Result<Vec<Candidate>, Memory>
+    ensures { IfOk result (λ list. list.items ≡ firsts (files_named names.now volumes.now)) }
+{
+    let mut list = Vec::new(alloc);
+    for volume in volumes {
+        if volume.as_slice() != NETWORK {
+            push_volume(alloc, &mut list, names, volume.as_slice())?;
+        }
+    }
+    Ok(list)
+}
+
+/// The candidates on local media, in the order in which they are tried: for each volume in the order given, but for
+/// `net`, each of the [`names`] without silicon. Each text is shown once, where it comes first.
+///
+/// Answers `Memory` where there is no memory for them.
+///
+/// Source: ONIE design specification, image discovery. That `net` is no local medium is this project's.
+pub fn candidates(
+    alloc: Global,
+    identity: &Identity,
+    mode: Mode,
+    volumes: &Names,
+) -> Result<Vec<Candidate>, Memory>
+    ensures listed { IfOk result (λ list.
+        list.items ≡ firsts (local_files (board_of identity.now) mode volumes.now)) }
+    // The law of what is kept: each text once, the first candidate of each, in their order.
+    ensures law { IfOk result (λ list.
+        KeepsFirsts (local_files (board_of identity.now) mode volumes.now) list.items) }
+{
+    let names = names(alloc, identity, None, mode)?;
+    let list = list_files(alloc, names.as_slice(), volumes.as_slice())?;
+    Ok(list)
+}
