@@ -1,0 +1,6 @@
+pub mod Taken
+pub mod Lines
+pub mod Words
+pub mod Outcomes
+pub mod BoardLemmas
+pub mod Printing

@@ -1,0 +1,38 @@
+-- The lines of refusals.
+use Rattle.std.specs.Prelude.{ℕ, List, [], codes}
+use Rattle.tlvinfo.specs.declared.fault.TlvKind.{TlvKind}
+use Rattle.tlvinfo.specs.declared.fault.TlvKind.TheVariants as kinds
+use Rattle.tlvinfo.specs.declared.fault.IdentFault.{IdentFault}
+use Rattle.tlvinfo.specs.declared.fault.IdentFault.TheVariants as idents
+use Rattle.onie_cli.specs.declared.status.EepromKind.TheVariants as eeproms
+use Rattle.onie_cli.specs.declared.status.Status.{Status}
+use Rattle.onie_cli.specs.declared.status.Status.TheVariants as statuses
+
+-- the line for bytes that are no TlvInfo data
+abbrev pub tlv_line_of : TlvKind → List ℕ
+tlv_line_of kinds.NotTlv = codes "onie: eeprom: not tlv\n"
+tlv_line_of (kinds.Version version) = codes "onie: eeprom: version\n"
+tlv_line_of (kinds.Length total given) = codes "onie: eeprom: length\n"
+tlv_line_of (kinds.Cut at) = codes "onie: eeprom: cut\n"
+tlv_line_of (kinds.BadLength code size) = codes "onie: eeprom: bad length\n"
+tlv_line_of (kinds.Repeated code) = codes "onie: eeprom: repeated\n"
+tlv_line_of (kinds.AfterCrc at) = codes "onie: eeprom: after crc\n"
+tlv_line_of kinds.NoCrc = codes "onie: eeprom: no crc\n"
+tlv_line_of (kinds.Crc kept computed) = codes "onie: eeprom: crc\n"
+
+-- the line for fields that identify no board
+abbrev pub ident_line_of : IdentFault → List ℕ
+ident_line_of idents.NoPlatform = codes "onie: eeprom: no platform\n"
+ident_line_of idents.Platform = codes "onie: eeprom: platform\n"
+ident_line_of idents.NoMac = codes "onie: eeprom: no mac\n"
+
+-- the line of a status, empty where it has none
+abbrev pub refusal_line_of : Status → List ℕ
+refusal_line_of (statuses.Done outcome) = []
+refusal_line_of statuses.SinkFault = []
+refusal_line_of statuses.Memory = []
+refusal_line_of statuses.Usage = codes "onie: usage\n"
+refusal_line_of (statuses.BadEeprom (eeproms.Tlv kind)) = tlv_line_of kind
+refusal_line_of (statuses.BadEeprom (eeproms.Ident fault)) = ident_line_of fault
+refusal_line_of statuses.EepromFault = codes "onie: eeprom fault\n"
+refusal_line_of statuses.MediaFault = codes "onie: media fault\n"

@@ -1,0 +1,20 @@
+//! The top call: what `onie` does with its words, over devices that it is handed.
+//!
+//! [`onie`] answers a [`Status`], whose number is the program's exit status. Its contract says of every list of words
+//! and every content of the devices which status comes and what the console takes; a device's fault is answered only
+//! where that device counted one.
+#![tactic(auto)]
+
+mod board;
+mod discovery;
+mod line;
+mod local;
+mod refusal;
+mod status;
+mod top;
+
+pub use status::{EepromKind, Outcome, Status};
+pub use top::onie;
+
+#[cfg(test)]
+mod tests;

@@ -1,0 +1,61 @@
+//! What the top call answers.
+
+ghost use Rattle.std.specs.Prelude.{◌≡◌};
+ghost use Rattle.onie_cli.specs.Status.{number_of};
+
+use thiserror::Error;
+use tlvinfo::{IdentFault, TlvKind};
+
+/// What a call did that succeeded.
+#[derive(Clone, Copy, Debug, PartialEq, Eq)]
+pub enum Outcome {
+    /// It printed what was asked for.
+    Printed,
+}
+
+/// Why an EEPROM holds no identity.
+#[derive(Clone, Copy, Debug, PartialEq, Eq, Error)]
+pub enum EepromKind {
+    /// Its bytes are no TlvInfo data.
+    #[error("{0}")]
+    Tlv(TlvKind),
+    /// Its fields identify no board.
+    #[error("{0}")]
+    Ident(IdentFault),
+}
+
+/// How a call ended.
+#[derive(Clone, Copy, Debug, PartialEq, Eq)]
+pub enum Status {
+    /// It did what the words say.
+    Done(Outcome),
+    /// The words are no command.
+    Usage,
+    /// The EEPROM holds no identity.
+    BadEeprom(EepromKind),
+    /// The EEPROM counted a fault.
+    EepromFault,
+    /// The media counted a fault.
+    MediaFault,
+    /// The console counted a fault.
+    SinkFault,
+    /// Memory ran out.
+    Memory,
+}
+
+impl Status {
+    /// The exit status of a program that ends with this status.
+    pub fn number(&self) -> u8
+        ensures { result ≡ number_of self.now }
+    {
+        match self {
+            Status::Done(_) => 0,
+            Status::Usage => 2,
+            Status::BadEeprom(_) => 4,
+            Status::EepromFault => 7,
+            Status::MediaFault => 8,
+            Status::SinkFault => 10,
+            Status::Memory => 13,
+        }
+    }
+}
