@@ -1,0 +1,11 @@
+mod ByteLemmas
+mod DigitLemmas
+mod FormLemmas
+mod GapLemmas
+mod GroupLemmas
+mod GuidLemmas
+mod Joins
+mod PrintLemmas
+mod RunLemmas
+mod ShortestLemmas
+mod Zips

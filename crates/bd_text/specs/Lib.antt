@@ -1,0 +1,11 @@
+pub mod Digits
+pub mod Fields
+pub mod Gap
+pub mod Group
+pub mod Guid
+pub mod Mac
+pub mod Marks
+pub mod Octet
+pub mod Parts
+pub mod V4
+pub mod V6
