@@ -58,7 +58,7 @@ pub fn candidates(
 ) -> Result<Vec<Candidate>, Memory>
     ensures listed { IfOk result (λ list.
         list.items ≡ firsts (local_files (board_of identity.now) mode volumes.now)) }
-    // The law of what is kept: each text once, the first candidate of each, in their order.
+    // No text twice, the first candidate of each text, and the order kept.
     ensures law { IfOk result (λ list.
         KeepsFirsts (local_files (board_of identity.now) mode volumes.now) list.items) }
 {
