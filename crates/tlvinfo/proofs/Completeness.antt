@@ -11,7 +11,8 @@ use Rattle.tlvinfo.specs.TlvInfo.{Field, field_bytes, joined, signature, header,
 use Rattle.tlvinfo.specs.Reading.{is_again, total_at, checksum_at, field_at, fields_at, reading}
 use Rattle.tlvinfo.proofs.Fields.{AllByRecursion-after, is_again-within}
 use Rattle.tlvinfo.proofs.FieldTests.{field_at-tests}
-use Rattle.tlvinfo.proofs.Spelling.{ending, header-joined-ending}
+use Rattle.tlvinfo.specs.Encoding.{ending}
+use Rattle.tlvinfo.proofs.Spelling.{header-joined-ending}
 use Rattle.tlvinfo.proofs.Steps.{step-ends, step-takes}
 
 checksum_reads : (whole : List ℕ) (at : ℕ) (before : List Field) (rest : List ℕ) → length rest ≡ 4 → big_number 4 rest ≡ crc32_of (take (at + 2) whole) → field_at whole at before (0xfe ∷ 4 ∷ rest) ≡ Ok None

@@ -8,3 +8,5 @@ pub mod Completeness
 pub mod DecodeLoop
 pub mod PlatformLemmas
 pub mod Uniqueness
+pub mod Joined
+pub mod Writes

@@ -15,7 +15,8 @@ use Rattle.tlvinfo.specs.declared.fault.TlvFault.{TlvFault}
 use Rattle.tlvinfo.specs.TlvInfo.{Field, field_bytes, joined, signature, header, total_of, spelling, AreFields, Tlv}
 use Rattle.tlvinfo.specs.Reading.{written_total, total_at, field_at, fields_at, reading, Gives}
 use Rattle.tlvinfo.proofs.Fields.{AreFields-nil, AreFields-push}
-use Rattle.tlvinfo.proofs.Spelling.{ending, join, header-joined-ending}
+use Rattle.tlvinfo.specs.Encoding.{ending}
+use Rattle.tlvinfo.proofs.Spelling.{join, header-joined-ending}
 use Rattle.tlvinfo.proofs.Steps.{bind_ok, guard_ok, ok-injective, Ends, go_on, step_cases}
 
 ends_so : (whole : List ℕ) (at : ℕ) (left front : List ℕ) → Ends whole at left → whole ≡ front ++ left → length front ≡ at → IsBytes left → left ≡ ending front

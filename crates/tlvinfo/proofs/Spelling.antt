@@ -2,11 +2,8 @@
 use Rattle.std.proofs.Common.{◌≡◌, ℕ, List, [], ◌∷◌, ◌++◌, length, refl, sym, ap, ◌∙◌, append_assoc}
 use Rattle.byteorder.specs.Endian.{big_bytes}
 use Rattle.bd_bytes.specs.Crc.{crc32_of}
+use Rattle.tlvinfo.specs.Encoding.{ending}
 use Rattle.tlvinfo.specs.TlvInfo.{Field, joined, header, total_of, before_checksum, spelling}
-
--- the checksum's field after these bytes
-abbrev pub ending : List ℕ → List ℕ
-ending front = 0xfe ∷ 4 ∷ big_bytes 4 (crc32_of (front ++ 0xfe ∷ 4 ∷ []))
 
 pub length-ending : (front : List ℕ) → length (ending front) ≡ 6
 length-ending front = refl

@@ -6,3 +6,4 @@ pub mod View
 pub mod PlatformView
 pub mod IdentityView
 pub mod RawView
+pub mod Encoding

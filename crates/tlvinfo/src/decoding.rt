@@ -11,16 +11,11 @@ ghost use Rattle.tlvinfo.specs.RawView.{field_of, IsAnswer};
 use crate::codes::{CHECKSUM, is_allowed};
 use crate::fault::{TlvFault, TlvKind};
 use crate::info::{Entry, Info, is_repeated};
+use crate::lengths::{GREATEST_TOTAL, HEADER};
 use arrayvec::ArrayVec;
 use bd_bytes::{Cursor, Short, crc32};
 use byteorder::{BigEndian, ByteOrder};
 use std::alloc::Global;
-
-/// How many bytes the header has.
-const HEADER: usize = 11;
-
-/// The greatest total length: the whole is at most 2,048 bytes.
-const GREATEST_TOTAL: usize = 2037;
 
 /// The header as it stands, right or wrong.
 #[derive(Clone, Copy)]

@@ -1,4 +1,4 @@
-//! Why bytes are no TlvInfo data, and why fields identify no board.
+//! Why bytes are no TlvInfo data, why fields identify no board, and why they are not written.
 
 ghost use Rattle.std.specs.Prelude.{◌≡◌};
 ghost use Rattle.tlvinfo.specs.declared.fault.TlvFault.TheVariants.{Memory, Bad};
@@ -78,3 +78,8 @@ pub enum IdentFault {
     #[error("no base MAC address")]
     NoMac,
 }
+
+/// The whole passes 2,048 bytes.
+#[derive(Clone, Copy, Debug, PartialEq, Eq, Error)]
+#[error("more than 2,048 bytes")]
+pub struct TooLong;

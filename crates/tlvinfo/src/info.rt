@@ -26,7 +26,7 @@ pub(crate) struct Entry {
 /// once at most.
 #[derive(Drop)]
 pub struct Info {
-    entries: Vec<Entry>,
+    pub(crate) entries: Vec<Entry>,
 }
 
 impl Model for Info {
