@@ -14,7 +14,7 @@ any_none : (p : Field → Bool) (fs : List Field) → list_any p fs ≡ false �
 any_none p [] h = refl
 any_none p (f ∷ fs) h = let parts = or_parts (p f) (list_any p fs) h in rw (parts.0, any_none p fs parts.1) refl
 
-count_by-cons : (p : Field → Bool) (f : Field) (fs : List Field) → count_by p (f ∷ fs) ≡ cond (p f) 1 0 + count_by p fs
+pub count_by-cons : (p : Field → Bool) (f : Field) (fs : List Field) → count_by p (f ∷ fs) ≡ cond (p f) 1 0 + count_by p fs
 count_by-cons p f fs = sum_by-append (λ x. cond (p x) 1 0) (f ∷ []) fs ∙ omega arith
 
 none_any : (p : Field → Bool) (fs : List Field) → count_by p fs ≡ 0 → list_any p fs ≡ false
@@ -26,15 +26,19 @@ none_any p (f ∷ fs) h =
       | inr n ↦ let k : 0 + count_by p fs ≡ 0 = rw n at sums in rw (n, none_any p fs (omega arith)) refl
     ]
 
-AllByRecursion-append : (fs gs : List Field) → AllByRecursion IsField fs → AllByRecursion IsField gs → AllByRecursion IsField (fs ++ gs)
+pub AllByRecursion-append : (fs gs : List Field) → AllByRecursion IsField fs → AllByRecursion IsField gs → AllByRecursion IsField (fs ++ gs)
 AllByRecursion-append [] gs h k = k
 AllByRecursion-append (f ∷ fs) gs h k = (h.0, AllByRecursion-append fs gs h.1 k)
+
+pub AllByRecursion-before : (fs gs : List Field) → AllByRecursion IsField (fs ++ gs) → AllByRecursion IsField fs
+AllByRecursion-before [] gs h = tt
+AllByRecursion-before (f ∷ fs) gs h = (h.0, AllByRecursion-before fs gs h.1)
 
 pub AllByRecursion-after : (fs gs : List Field) → AllByRecursion IsField (fs ++ gs) → AllByRecursion IsField gs
 AllByRecursion-after [] gs h = h
 AllByRecursion-after (f ∷ fs) gs h = AllByRecursion-after fs gs h.1
 
-count_of-append : (code : ℕ) (fs gs : List Field) → count_of code (fs ++ gs) ≡ count_of code fs + count_of code gs
+pub count_of-append : (code : ℕ) (fs gs : List Field) → count_of code (fs ++ gs) ≡ count_of code fs + count_of code gs
 count_of-append code fs gs = sum_by-append (λ f. cond (eqb f.code code) 1 0) fs gs
 
 pub AreFields-nil : AreFields []

@@ -10,3 +10,5 @@ pub mod PlatformLemmas
 pub mod Uniqueness
 pub mod Joined
 pub mod Writes
+pub mod Edits
+pub mod Examples

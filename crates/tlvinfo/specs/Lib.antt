@@ -7,3 +7,5 @@ pub mod PlatformView
 pub mod IdentityView
 pub mod RawView
 pub mod Encoding
+pub mod Editing
+pub mod ShownView

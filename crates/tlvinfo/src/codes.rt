@@ -2,6 +2,7 @@
 
 ghost use Rattle.std.specs.Prelude.{◌≡◌};
 ghost use Rattle.bd_codes.specs.TlvTable.{allows, is_single};
+ghost use Rattle.tlvinfo.specs.Editing.{can_hold};
 
 use bd_codes::tlv_codes;
 
@@ -12,7 +13,7 @@ pub(crate) const PLATFORM: u8 = 0x28;
 pub(crate) const BASE_MAC: u8 = 0x24;
 
 /// The code of a vendor extension, which may stand any number of times.
-const VENDOR_EXTENSION: u8 = 0xfd;
+pub(crate) const VENDOR_EXTENSION: u8 = 0xfd;
 
 /// The code of the checksum's field, which ends the fields.
 pub(crate) const CHECKSUM: u8 = 0xfe;
@@ -25,6 +26,13 @@ pub(crate) fn is_allowed(code: u8, length: usize) -> bool
         Some(row) => row.allows(length),
         None => true,
     }
+}
+
+/// Whether a value of this length, in bytes, can be set under the code.
+pub(crate) fn can_hold(code: u8, length: usize) -> bool
+    ensures { result ≡ can_hold code length }
+{
+    is_allowed(code, length) && length <= 255
 }
 
 /// Whether the code may stand once at most.

@@ -143,7 +143,8 @@ fn next_field<'a>(
 }
 
 impl RawField<'_> {
-    fn entry(&self) -> Entry
+    /// The field as it is kept.
+    pub(crate) fn entry(&self) -> Entry
         requires { length self.now.value.now < 256 }
         ensures { entry_field result ≡ record { code = self.now.code; value = self.now.value.now } }
     {

@@ -1,9 +1,10 @@
-//! Why bytes are no TlvInfo data, why fields identify no board, and why they are not written.
+//! Why bytes are no TlvInfo data, why fields identify no board, and why they are not written or changed.
 
 ghost use Rattle.std.specs.Prelude.{◌≡◌};
 ghost use Rattle.tlvinfo.specs.declared.fault.TlvFault.TheVariants.{Memory, Bad};
+ghost use Rattle.tlvinfo.specs.declared.fault.SetFault.TheVariants as set_faults;
 
-use std::alloc::AllocError;
+use std::alloc::{AllocError, AllocFailed};
 use thiserror::Error;
 
 /// The first fault in the bytes, from left to right. Places and lengths count bytes, places from the first byte.
@@ -83,3 +84,28 @@ pub enum IdentFault {
 #[derive(Clone, Copy, Debug, PartialEq, Eq, Error)]
 #[error("more than 2,048 bytes")]
 pub struct TooLong;
+
+/// Why the value of a code is not set. The first that applies, in this order.
+#[derive(Clone, Copy, Debug, PartialEq, Eq, Error)]
+pub enum SetFault {
+    /// The code is the checksum's.
+    #[error("the checksum's code")]
+    BadCode,
+    /// The value has a length that the code doesn't allow, or more than 255 bytes.
+    #[error("a value of a length that its code doesn't allow")]
+    BadValue,
+    /// The whole would pass 2,048 bytes.
+    #[error("more than 2,048 bytes")]
+    TooLong,
+    /// Memory ran out.
+    #[error("out of memory")]
+    Memory,
+}
+
+impl<T: Drop> From<AllocFailed<T>> for SetFault {
+    ghost from_gives = { λ _ fault. fault ≡ set_faults.Memory };
+
+    fn from(_failed: AllocFailed<T>) -> SetFault {
+        SetFault::Memory
+    }
+}

@@ -1,6 +1,6 @@
 //! The fields of TlvInfo data.
 
-ghost use Rattle.std.specs.Prelude.{◌≡◌, ◌==◌, IsTrue, IfSome, length};
+ghost use Rattle.std.specs.Prelude.{◌≡◌, ◌==◌, ◌≤◌, ◌↔◌, IsTrue, IfSome, IsNone, option_map, slice_get, length};
 ghost use Rattle.std.specs.List.{list_any};
 ghost use Rattle.std.specs.Option.{option_copied};
 ghost use Rattle.bd_codes.specs.TlvTable.{allows};
@@ -8,6 +8,7 @@ ghost use Rattle.tlvinfo.specs.Identity.{value_of};
 ghost use Rattle.tlvinfo.specs.Reading.{is_again};
 ghost use Rattle.tlvinfo.specs.TlvInfo.{AreFields};
 ghost use Rattle.tlvinfo.specs.View.{fields_of};
+ghost use Rattle.tlvinfo.specs.ShownView.{shown_field};
 
 use crate::codes::stands_once;
 use arrayvec::ArrayVec;
@@ -71,6 +72,13 @@ fn first_value(entries: &[Entry], code: u8) -> Option<&[u8]>
     None
 }
 
+fn entry_at(entries: &[Entry], place: usize) -> Option<(u8, &[u8])>
+    ensures { option_map shown_field result ≡ slice_get (fields_of entries.now) place }
+{
+    let entry = entries.get(place)?;
+    Some((entry.code, entry.value.as_slice()))
+}
+
 impl Info {
     pub(crate) fn new(entries: Vec<Entry>) -> Info
         requires { AreFields (fields_of entries.items) }
@@ -85,5 +93,13 @@ impl Info {
         ensures allowed { IfSome result (λ value. IsTrue (allows code (length value.now))) }
     {
         first_value(&self.entries, code)
+    }
+    /// The code and the value of the field at a place of the list, from 0. `None` exactly at the end of the list or
+    /// after it.
+    pub fn field(&self, place: usize) -> Option<(u8, &[u8])>
+        ensures field { option_map shown_field result ≡ slice_get self.now place }
+        ensures end { IsNone result ↔ (length self.now ≤ place) }
+    {
+        entry_at(&self.entries, place)
     }
 }
