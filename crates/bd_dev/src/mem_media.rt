@@ -71,7 +71,8 @@ impl Media for MemMedia {
     fn volumes(&mut self, alloc: Global) -> Result<Names, DevFault>
         ensures named { IfOk result (ListsVolumes (Some self.old.volumes)) }
         ensures kept { Some self.new.volumes ≡ Some self.old.volumes }
-        ensures cause { HasCauseOr DevFault.Failed self.old.calls.faults self.new.calls.faults result }
+        ensures cause { HasCauseOr DevFault.Failed
+            self.old.calls.faults self.new.calls.faults result }
         ensures listed { (result ≡ Err DevFault.Failed) ↔ IsListed self.old.calls }
         ensures counted { self.new.calls ≡ after_call self.old.calls (is_failed result) }
     {
