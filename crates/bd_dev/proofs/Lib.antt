@@ -1,3 +1,4 @@
 pub mod Appending
 mod Lookups
 mod Adding
+mod Storing

@@ -1,10 +1,10 @@
 //! The devices that the program talks to: an EEPROM, removable media and a sink of bytes.
 //!
 //! Each is a trait, whose clauses speak of what the device holds, where it tells that, and of its
-//! count of faults: the answers are what the device holds, a call that fails changes nothing of it
-//! and has raised the count, and the count never falls. A device that tells nothing, as a real
-//! file, still keeps the bounds. The devices in memory tell all that they hold, and fail at the
-//! calls whose numbers they were given.
+//! count of faults: the answers are what the device holds, a call that fails has raised the count
+//! and, but for an EEPROM's store, changes nothing that the device holds, and the count never
+//! falls. A device that tells nothing, as a real file, still keeps the bounds. The devices in
+//! memory tell all that they hold, and fail at the calls whose numbers they were given.
 #![tactic(auto)]
 
 mod bytes;

@@ -1,8 +1,8 @@
 //! An EEPROM in memory.
 
-ghost use Rattle.std.specs.Prelude.{◌≡◌, ◌≤◌, ◌↔◌, Some, length, IfOk, IsErr, is_err};
+ghost use Rattle.std.specs.Prelude.{◌≡◌, ◌≤◌, ◌↔◌, Some, length, IfOk, OnOk, OnErr, IsErr, is_err, is_some};
 ghost use Rattle.bd_dev.specs.Calls.{IsListed, after_call, no_calls};
-ghost use Rattle.bd_dev.specs.Eeprom.{Loads};
+ghost use Rattle.bd_dev.specs.Eeprom.{Loads, Stores};
 ghost use Rattle.bd_dev.specs.Faults.{HasCause};
 
 use crate::bytes::Memory;
@@ -12,22 +12,24 @@ use crate::faults::Failed;
 use std::alloc::Global;
 use std::marker::Model;
 
-/// An EEPROM in memory.
+/// An EEPROM in memory. It has room for all that it may hold, so a store takes no memory.
 #[derive(Drop)]
 pub struct MemEeprom {
-    bytes: Vec<u8>,
+    // The content is the first `len` of these bytes.
+    room: [u8; 2048],
+    len: usize,
     calls: CallCounter,
 }
 
 impl Model for MemEeprom {
-    ghost use Rattle.std.specs.Prelude.{◌≤◌, length};
+    ghost use Rattle.std.specs.Prelude.{◌≤◌, take};
     ghost use Rattle.bd_dev.specs.Eeprom.{EepromInMemory};
 
     ghost Value = { EepromInMemory };
 
-    ghost view = { λ e. record { bytes = e.bytes.items; calls = e.calls } };
+    ghost view = { λ e. record { bytes = take e.len e.room; calls = e.calls } };
 
-    ghost invariant = { λ e. length e.bytes.items ≤ 2048 };
+    ghost invariant = { λ e. e.len ≤ 2048 };
 }
 
 impl MemEeprom {
@@ -37,8 +39,11 @@ impl MemEeprom {
         requires { length bytes.now ≤ 2048 }
         ensures { IfOk result (λ e. e ≡ record { bytes = bytes.now; calls = no_calls fails.now }) }
     {
+        let mut room = [0; 2048];
+        room[..bytes.len()].copy_from_slice(bytes);
         Ok(MemEeprom {
-            bytes: Vec::from_slice(alloc, bytes)?,
+            room,
+            len: bytes.len(),
             calls: CallCounter::new(alloc, fails)?,
         })
     }
@@ -57,8 +62,25 @@ impl Eeprom for MemEeprom {
         ensures counted { self.new.calls ≡ after_call self.old.calls (is_err result) }
     {
         self.calls.next()?;
-        let len = self.bytes.len();
-        out[..len].copy_from_slice(&self.bytes);
-        Ok(len)
+        out[..self.len].copy_from_slice(&self.room[..self.len]);
+        Ok(self.len)
+    }
+
+    /// A store that fails leaves the content as it was.
+    #[tactic(auto, using(crate::proofs::Storing::take_overwritten))]
+    fn store(&mut self, bytes: &[u8]) -> Result<(), Failed>
+        requires { length bytes.now ≤ 2048 }
+        ensures stored { OnOk result
+            (Stores (Some self.old.bytes) (Some self.new.bytes) bytes.now) }
+        ensures told { is_some (Some self.new.bytes) ≡ is_some (Some self.old.bytes) }
+        ensures unchanged { OnErr result (self.new.bytes ≡ self.old.bytes) }
+        ensures cause { HasCause self.old.calls.faults self.new.calls.faults result }
+        ensures listed { IsErr result ↔ IsListed self.old.calls }
+        ensures counted { self.new.calls ≡ after_call self.old.calls (is_err result) }
+    {
+        self.calls.next()?;
+        self.room[..bytes.len()].copy_from_slice(bytes);
+        self.len = self.len.max(bytes.len());
+        Ok(())
     }
 }

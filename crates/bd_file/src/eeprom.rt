@@ -4,8 +4,8 @@ ghost use Rattle.std.specs.Prelude.{◌≡◌, ◌≤◌, None, IfOk, length};
 
 use crate::faults::FaultCount;
 use bd_dev::{Eeprom, Failed};
-use std::fs;
-use std::io::{self, ErrorKind, Read};
+use std::fs::{self, OpenFile, OpenOptions};
+use std::io::{self, ErrorKind, Read, Write};
 use std::marker::Model;
 use std::rt::Files;
 
@@ -49,15 +49,28 @@ impl<'a, R: Files> Eeprom for FileEeprom<'a, R> {
         let loaded = load_file(self.rt, self.path, out);
         self.faults.counted(loaded)
     }
+
+    /// Opens the file anew, writes all of the bytes from its front and waits until the disk has
+    /// them. Never makes the file or cuts it off. A missing file and each error of the system is a
+    /// fault.
+    fn store(&mut self, bytes: &[u8]) -> Result<(), Failed> {
+        let stored = store_file(self.rt, self.path, bytes);
+        self.faults.counted(stored)
+    }
 }
 
-// Opening a FIFO would wait for a writer, so only a regular file is opened.
+// Opening a FIFO would wait for its other end, so only a regular file is opened.
+fn check_regular<R: Files>(rt: &R, path: &str) -> io::Result<()> {
+    if fs::metadata(rt, path)?.is_file() {
+        return Ok(());
+    }
+    Err(io::Error::from(ErrorKind::InvalidInput))
+}
+
 fn load_file<R: Files>(rt: &R, path: &str, out: &mut [u8; 2048]) -> io::Result<usize>
     ensures { IfOk result (λ n. n ≤ 2048) }
 {
-    if !fs::metadata(rt, path)?.is_file() {
-        return Err(io::Error::from(ErrorKind::InvalidInput));
-    }
+    check_regular(rt, path)?;
     let mut file = fs::open(rt, path)?;
     fill(&mut file, out)
 }
@@ -75,4 +88,12 @@ fn fill<F: Read>(file: &mut F, out: &mut [u8]) -> io::Result<usize>
         done += count;
     }
     Ok(done)
+}
+
+// An error may come only as the system writes the bytes to the disk, so that is waited for.
+fn store_file<R: Files>(rt: &R, path: &str, bytes: &[u8]) -> io::Result<()> {
+    check_regular(rt, path)?;
+    let mut file = OpenOptions::new().write(true).open(rt, path)?;
+    file.write_all(bytes)?;
+    file.sync_data()
 }
