@@ -59,6 +59,25 @@ fn eeprom_gives_its_bytes(rt: HostRuntime) -> Result<(), Fail> {
     Ok(())
 }
 
+#[test]
+fn eeprom_is_stored_from_its_front(rt: HostRuntime) -> Result<(), Fail> {
+    let mut eeprom = MemEeprom::new(rt.alloc(), b"TlvInfo", &[7])?;
+    let table: [(&[u8], Result<(), Failed>, &[u8]); 4] = [
+        (b"abc", Ok(()), b"abcInfo"),
+        (b"1234567", Ok(()), b"1234567"),
+        (b"longer than it", Ok(()), b"longer than it"),
+        (b"lost", Err(Failed), b"longer than it"),
+    ];
+    for (bytes, answer, want) in table {
+        assert!(rt; bytes.len() <= 2048);
+        assert_eq!(rt; eeprom.store(bytes), answer);
+        let mut out = [0; 2048];
+        let count = eeprom.load(&mut out)?;
+        assert_eq!(rt; &out[..count], want);
+    }
+    Ok(())
+}
+
 fn two_volumes(alloc: Global) -> Result<MemMedia, Memory> {
     let mut media = MemMedia::new(alloc, &[])?;
     media.add(b"usb1", b"a", b"old")?;
