@@ -73,7 +73,8 @@ fn first_value(entries: &[Entry], code: u8) -> Option<&[u8]>
 }
 
 fn entry_at(entries: &[Entry], place: usize) -> Option<(u8, &[u8])>
-    ensures { option_map shown_field result ≡ slice_get (fields_of entries.now) place }
+    ensures field { option_map shown_field result ≡ slice_get (fields_of entries.now) place }
+    ensures short { IfSome result (λ field. length field.1.now ≤ 255) }
 {
     let entry = entries.get(place)?;
     Some((entry.code, entry.value.as_slice()))
@@ -99,6 +100,8 @@ impl Info {
     pub fn field(&self, place: usize) -> Option<(u8, &[u8])>
         ensures field { option_map shown_field result ≡ slice_get self.now place }
         ensures end { IsNone result ↔ (length self.now ≤ place) }
+        ensures allowed { IfSome result (λ field. IsTrue (allows field.0 (length field.1.now))) }
+        ensures short { IfSome result (λ field. length field.1.now ≤ 255) }
     {
         entry_at(&self.entries, place)
     }
