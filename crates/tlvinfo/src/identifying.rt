@@ -4,12 +4,13 @@ ghost use Rattle.std.specs.Prelude.{◌≡◌, ◌<◌, ◌≤◌, IfOk, IfErr, 
 ghost use Rattle.tlvinfo.specs.Identity.{Board, Identifies, Lacks};
 ghost use Rattle.tlvinfo.specs.IdentityView.{board_of};
 
-use crate::board::{Identity, Mac};
+use crate::board::Identity;
 use crate::codes::{BASE_MAC, PLATFORM};
 use crate::fault::IdentFault;
 use crate::info::Info;
 use crate::platform::{LONGEST, platform};
 use arrayvec::ArrayString;
+use bd_text::Mac;
 
 /// A text of the platform alphabet, kept in place.
 fn kept(text: &[u8]) -> ArrayString<200>

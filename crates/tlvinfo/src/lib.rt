@@ -17,7 +17,7 @@ mod info;
 mod lengths;
 mod platform;
 
-pub use board::{Identity, Mac};
+pub use board::Identity;
 pub use decoding::decode;
 pub use encoding::encode;
 pub use fault::{IdentFault, SetFault, TlvFault, TlvKind, TooLong};
