@@ -1,0 +1,6 @@
+mod Dates
+mod Decimals
+mod Examples
+mod Hexadecimal
+mod Printable
+mod Widths
