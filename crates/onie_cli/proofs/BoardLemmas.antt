@@ -6,6 +6,7 @@ use Rattle.onie_cli.specs.declared.status.EepromKind.{EepromKind}
 use Rattle.onie_cli.specs.declared.status.EepromKind.TheVariants as eeproms
 use Rattle.onie_cli.specs.declared.status.Status.{Status}
 use Rattle.onie_cli.specs.declared.status.Status.TheVariants as statuses
+use Rattle.onie_cli.specs.Fields.{IsFieldsRefusal}
 use Rattle.onie_cli.specs.Board.{HoldsBoard, IsRefused, IsLoadRefusal, IsAfterBoard, IsAfterRefusal}
 
 pub refused-or_board : (bytes : List ℕ) (kind : EepromKind) (board : Board) → IsRefused bytes kind → HoldsBoard bytes board → ⊥
@@ -30,6 +31,7 @@ load_refusal-board content bytes (statuses.BadEeprom kind) board h told holds = 
 load_refusal-board content bytes statuses.EepromFault board h told holds = tt
 load_refusal-board content bytes statuses.MediaFault board h told holds = absurd h
 load_refusal-board content bytes statuses.SinkFault board h told holds = absurd h
+load_refusal-board content bytes (statuses.Refused kind) board h told holds = absurd h
 load_refusal-board content bytes statuses.Memory board h told holds = tt
 
 -- and over one that holds none
@@ -40,4 +42,17 @@ load_refusal-refused content bytes (statuses.BadEeprom other) kind h told refuse
 load_refusal-refused content bytes statuses.EepromFault kind h told refused = tt
 load_refusal-refused content bytes statuses.MediaFault kind h told refused = absurd h
 load_refusal-refused content bytes statuses.SinkFault kind h told refused = absurd h
+load_refusal-refused content bytes (statuses.Refused other) kind h told refused = absurd h
 load_refusal-refused content bytes statuses.Memory kind h told refused = tt
+
+-- what is no TlvInfo data holds no board
+pub fields-or_load : (content : Option (List ℕ)) (status : Status) → IsFieldsRefusal content status → IsLoadRefusal content status
+fields-or_load content (statuses.Done outcome) h = h
+fields-or_load content statuses.Usage h = h
+fields-or_load content (statuses.BadEeprom (eeproms.Tlv kind)) h = h
+fields-or_load content (statuses.BadEeprom (eeproms.Ident fault)) h = λ bytes told. absurd (h bytes told)
+fields-or_load content statuses.EepromFault h = h
+fields-or_load content statuses.MediaFault h = h
+fields-or_load content statuses.SinkFault h = h
+fields-or_load content (statuses.Refused kind) h = h
+fields-or_load content statuses.Memory h = h

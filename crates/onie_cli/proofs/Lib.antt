@@ -3,4 +3,6 @@ pub mod Lines
 pub mod Words
 pub mod Outcomes
 pub mod BoardLemmas
+pub mod FieldsLemmas
+pub mod ChangeLemmas
 pub mod Printing

@@ -1,12 +1,21 @@
-use Rattle.std.proofs.Common.{◌≡◌, ℕ, ◌<◌, ◌≤◌, eqb, Bool, true, List, [], ◌∷◌, length, get_or, refl, sym, ap, ◌∙◌, arith}
-use Rattle.std.specs.Prelude.{map}
+-- Words of a command line, by their places.
+use Rattle.std.proofs.Common.{◌≡◌, ℕ, ◌<◌, ◌≤◌, eqb, true, false, List, [], ◌∷◌, ◌++◌, length, get_or, Bor, refl, sym, ap, ◌∙◌, arith}
+use Rattle.std.specs.Prelude.{map, not, codes}
 use Rattle.std.specs.Cmp.Lexicographic.{pointwise}
-use Rattle.std.proofs.lemmas.Bool.{eqb-true, eq-eqb, and_parts}
+use Rattle.std.proofs.lemmas.Bool.{eqb-true, and_parts, not-false}
+use Rattle.std.specs.Str.Parse.{digits_value}
+use Rattle.bd_text.specs.Digits.{SpellsHex}
+use Rattle.onie_cli.specs.declared.command.Command.{Command}
+use Rattle.onie_cli.specs.declared.command.Command.TheVariants as commands
+use Rattle.onie_cli.specs.Words.{Asks, IsDiscover, IsEeprom, IsEepromSet, IsUsage}
 
-single : {X : Type 0} (xs : List X) (x : X) → 1 ≤ length xs → length xs < 2 → x ≡ get_or xs 0 x → xs ≡ x ∷ []
-single [] x h k e = absurd (omega arith)
-single {X} (y ∷ []) x h k e = ap (λ (z : X). z ∷ []) (sym e)
-single (y ∷ z ∷ xs) x h k e = absurd (omega arith)
+four : {X : Type 0} (ws : List X) (a b c d : X) → 4 ≤ length ws → length ws < 5 → a ≡ get_or ws 0 a → b ≡ get_or ws 1 b → c ≡ get_or ws 2 c → d ≡ get_or ws 3 d → ws ≡ a ∷ b ∷ c ∷ d ∷ []
+four [] a b c d h k e f g i = absurd (omega arith)
+four (w ∷ []) a b c d h k e f g i = absurd (omega arith)
+four (w ∷ x ∷ []) a b c d h k e f g i = absurd (omega arith)
+four (w ∷ x ∷ y ∷ []) a b c d h k e f g i = absurd (omega arith)
+four (w ∷ x ∷ y ∷ z ∷ []) a b c d h k e f g i = cc
+four (w ∷ x ∷ y ∷ z ∷ v ∷ vs) a b c d h k e f g i = absurd (omega arith)
 
 both : {x y : ℕ} {xs ys : List ℕ} → x ≡ y → xs ≡ ys → x ∷ xs ≡ y ∷ ys
 both e h = cc
@@ -17,17 +26,46 @@ pointwise_same [] (y ∷ ys) e = absurd cc
 pointwise_same (x ∷ xs) [] e = absurd cc
 pointwise_same (x ∷ xs) (y ∷ ys) e = let parts = and_parts (eqb x y) (pointwise eqb xs ys) e in both (eqb-true x y parts.0) (pointwise_same xs ys parts.1)
 
-pointwise_refl : (xs : List ℕ) → pointwise eqb xs xs ≡ true
-pointwise_refl [] = refl
-pointwise_refl (x ∷ xs) = rw (eq-eqb x x refl, pointwise_refl xs) refl
+-- a text that does not differ from a word is that word
+pub is_word : (text shown word : List ℕ) → shown ≡ text → false ≡ not (pointwise eqb shown word) → text ≡ word
+is_word text shown word s e = sym s ∙ pointwise_same shown word (not-false _ (sym e))
 
-only : (x y : List ℕ) → x ∷ [] ≡ y ∷ [] → x ≡ y
-only x y e = cc
+-- four words by their places
+pub four_words : {X : Type 0} (v : X → List ℕ) (ws : List X) (a b c d : X) → 4 ≤ length ws → length ws < 5 → a ≡ get_or ws 0 a → b ≡ get_or ws 1 b → c ≡ get_or ws 2 c → d ≡ get_or ws 3 d → map v ws ≡ v a ∷ v b ∷ v c ∷ v d ∷ []
+four_words v ws a b c d h k e f g i = ap (map v) (four ws a b c d h k e f g i)
 
-pub word_is : {X : Type 0} (v : X → List ℕ) (ws : List X) (w : X) (shown target : List ℕ) (b : Bool) → 1 ≤ length ws → length ws < 2 → w ≡ get_or ws 0 w → shown ≡ v w → b ≡ pointwise eqb shown target
-    → (b ≡ true → map v ws ≡ target ∷ []) × (map v ws ≡ target ∷ [] → b ≡ true)
-word_is v ws w shown target b h k e s t =
-    let all : map v ws ≡ v w ∷ [] = ap (map v) (single ws w h k e) in (
-      λ yes'. all ∙ ap (λ (z : List ℕ). z ∷ []) (sym s ∙ pointwise_same shown target (sym t ∙ yes')),
-      λ same. t ∙ rw (s ∙ only (v w) target (sym all ∙ same)) (pointwise_refl target),
-    )
+pub is_eeprom_set : (words : List (List ℕ)) (a b c text : List ℕ) (code : ℕ) (digits : List ℕ) → words ≡ a ∷ b ∷ c ∷ text ∷ [] → a ≡ codes "eeprom" → b ≡ codes "set" → c ≡ codes "0x" ++ digits → SpellsHex 2 code digits → IsEepromSet words code text
+is_eeprom_set words a b c text code digits w e f g spells = record { digits = digits; spells = spells; is = w ∙ rw (e, f, g) refl }
+
+pub is_usage : (words : List (List ℕ)) (a b c text : List ℕ) → words ≡ a ∷ b ∷ c ∷ text ∷ [] → ((code : ℕ) (digits : List ℕ) → SpellsHex 2 code digits → c ≡ codes "0x" ++ digits → ⊥) → IsUsage words
+is_usage words a b c text w no_code = record {
+  no_discover = λ e. let k = sym w ∙ e in cc;
+  no_eeprom = λ e. let k = sym w ∙ e in cc;
+  no_eeprom_set = λ code other is. no_code code is.digits is.spells (let k = sym w ∙ is.is in cc);
+}
+
+-- the words of `eeprom set` have one code and one text
+pub eeprom_set-unique : (words : List (List ℕ)) (code other : ℕ) (text rest : List ℕ) → IsEepromSet words code text → IsEepromSet words other rest → (code ≡ other) × (text ≡ rest)
+eeprom_set-unique words code other text rest h k =
+    let e = sym h.is ∙ k.is in
+    let digits : h.digits ≡ k.digits = cc in
+    let texts : text ≡ rest = cc in
+    (sym h.spells.hex.value ∙ ap (digits_value 16) digits ∙ k.spells.hex.value, texts)
+
+-- the words of one command ask for no other
+pub asked_discover : (words : List (List ℕ)) (command : Command) → IsDiscover words → Asks words command → command ≡ commands.Discover
+asked_discover words commands.Discover h k = refl
+asked_discover words commands.Eeprom h k = absurd (let e = sym h ∙ k in cc)
+asked_discover words (commands.EepromSet code text) h k = absurd (let e = sym h ∙ k.is in cc)
+
+pub asked_eeprom : (words : List (List ℕ)) (command : Command) → IsEeprom words → Asks words command → command ≡ commands.Eeprom
+asked_eeprom words commands.Discover h k = absurd (let e = sym h ∙ k in cc)
+asked_eeprom words commands.Eeprom h k = refl
+asked_eeprom words (commands.EepromSet code text) h k = absurd (let e = sym h ∙ k.is in cc)
+
+pub asked_set : (words : List (List ℕ)) (command : Command) (code : ℕ) (text : List ℕ) → IsEepromSet words code text → Asks words command → (held : Bor (List ℕ)) × (command ≡ commands.EepromSet code held) × (text ≡ held.now)
+asked_set words commands.Discover code text h k = absurd (let e = sym h.is ∙ k in cc)
+asked_set words commands.Eeprom code text h k = absurd (let e = sym h.is ∙ k in cc)
+asked_set words (commands.EepromSet other held) code text h k =
+    let same = eeprom_set-unique words code other text held.now h k in
+    (held, ap (λ (n : ℕ). commands.EepromSet n held) (sym same.0), same.1)

@@ -28,6 +28,7 @@ IsLoadRefusal content (statuses.BadEeprom kind) = ForSome content (λ bytes. IsR
 IsLoadRefusal content statuses.EepromFault = Unit {0}
 IsLoadRefusal content statuses.MediaFault = ⊥
 IsLoadRefusal content statuses.SinkFault = ⊥
+IsLoadRefusal content (statuses.Refused kind) = ⊥
 IsLoadRefusal content statuses.Memory = Unit {0}
 
 -- a status where the EEPROM holds a board: the run's end, a device's fault or want of memory
@@ -38,6 +39,7 @@ IsAfterBoard (statuses.BadEeprom kind) = ⊥
 IsAfterBoard statuses.EepromFault = Unit {0}
 IsAfterBoard statuses.MediaFault = Unit {0}
 IsAfterBoard statuses.SinkFault = Unit {0}
+IsAfterBoard (statuses.Refused kind) = ⊥
 IsAfterBoard statuses.Memory = Unit {0}
 
 -- a status where the EEPROM holds none: that refusal, a fault of the EEPROM or the console, or want of memory
@@ -48,4 +50,5 @@ IsAfterRefusal kind (statuses.BadEeprom other) = other ≡ kind
 IsAfterRefusal kind statuses.EepromFault = Unit {0}
 IsAfterRefusal kind statuses.MediaFault = ⊥
 IsAfterRefusal kind statuses.SinkFault = Unit {0}
+IsAfterRefusal kind (statuses.Refused other) = ⊥
 IsAfterRefusal kind statuses.Memory = Unit {0}

@@ -3,5 +3,9 @@ pub mod Words
 pub mod Refusal
 pub mod Board
 pub mod Local
-pub mod Console
 pub mod Line
+pub mod Console
+pub mod Discover
+pub mod Fields
+pub mod Eeprom
+pub mod EepromSet

@@ -5,6 +5,8 @@ use Rattle.tlvinfo.specs.declared.fault.TlvKind.TheVariants as kinds
 use Rattle.tlvinfo.specs.declared.fault.IdentFault.{IdentFault}
 use Rattle.tlvinfo.specs.declared.fault.IdentFault.TheVariants as idents
 use Rattle.onie_cli.specs.declared.status.EepromKind.TheVariants as eeproms
+use Rattle.onie_cli.specs.declared.status.RefusedKind.{RefusedKind}
+use Rattle.onie_cli.specs.declared.status.RefusedKind.TheVariants as refusals
 use Rattle.onie_cli.specs.declared.status.Status.{Status}
 use Rattle.onie_cli.specs.declared.status.Status.TheVariants as statuses
 
@@ -26,6 +28,12 @@ ident_line_of idents.NoPlatform = codes "onie: eeprom: no platform\n"
 ident_line_of idents.Platform = codes "onie: eeprom: platform\n"
 ident_line_of idents.NoMac = codes "onie: eeprom: no mac\n"
 
+-- the line for a change that is refused
+abbrev pub refused_line_of : RefusedKind → List ℕ
+refused_line_of refusals.BadCode = codes "onie: refused: bad code\n"
+refused_line_of refusals.BadValue = codes "onie: refused: bad value\n"
+refused_line_of refusals.TooLong = codes "onie: refused: too long\n"
+
 -- the line of a status, empty where it has none
 abbrev pub refusal_line_of : Status → List ℕ
 refusal_line_of (statuses.Done outcome) = []
@@ -36,3 +44,4 @@ refusal_line_of (statuses.BadEeprom (eeproms.Tlv kind)) = tlv_line_of kind
 refusal_line_of (statuses.BadEeprom (eeproms.Ident fault)) = ident_line_of fault
 refusal_line_of statuses.EepromFault = codes "onie: eeprom fault\n"
 refusal_line_of statuses.MediaFault = codes "onie: media fault\n"
+refusal_line_of (statuses.Refused kind) = refused_line_of kind

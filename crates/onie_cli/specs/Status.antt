@@ -11,6 +11,7 @@ number_of (statuses.BadEeprom kind) = 4
 number_of statuses.EepromFault = 7
 number_of statuses.MediaFault = 8
 number_of statuses.SinkFault = 10
+number_of (statuses.Refused kind) = 12
 number_of statuses.Memory = 13
 
 -- a refusal that comes before anything is printed
@@ -21,4 +22,5 @@ IsBeforeRun (statuses.BadEeprom kind) = Unit {0}
 IsBeforeRun statuses.EepromFault = Unit {0}
 IsBeforeRun statuses.MediaFault = ⊥
 IsBeforeRun statuses.SinkFault = ⊥
+IsBeforeRun (statuses.Refused kind) = Unit {0}
 IsBeforeRun statuses.Memory = ⊥

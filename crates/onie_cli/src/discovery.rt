@@ -1,11 +1,11 @@
 //! One round of discovery on local media.
 
-ghost use Rattle.std.specs.Prelude.{◌≡◌, ◌≤◌, IfErr, OnOk, OnErr, Err, ◌∷◌, []};
+ghost use Rattle.std.specs.Prelude.{◌≡◌, ◌≤◌, IfErr, OnOk, OnErr, Err};
 ghost use Rattle.std.specs.Option.{ForSome};
 ghost use Rattle.bd_dev.specs.Faults.{Rose};
 ghost use Rattle.bd_dev.specs.Sink.{Appends, AppendsFront};
 ghost use Rattle.tlvinfo.specs.IdentityView.{board_of};
-ghost use Rattle.onie_cli.specs.Console.{lines_of, discover_text};
+ghost use Rattle.onie_cli.specs.Discover.{line_over, lines_of, discover_text};
 
 use crate::line::candidate_line;
 use crate::local::find_local;
@@ -43,8 +43,8 @@ fn print_one<M: Media, C: Sink>(
     console: &mut C,
     candidate: &Candidate,
 ) -> Result<(), Stop>
-    ensures line { OnOk result (ForSome (M.content media.old) (λ volumes. Appends (C.taken console.old) (C.taken console.new) (lines_of volumes (candidate.now ∷ [])))) }
-    ensures front { OnErr result (ForSome (M.content media.old) (λ volumes. AppendsFront (C.taken console.old) (C.taken console.new) (lines_of volumes (candidate.now ∷ [])))) }
+    ensures line { OnOk result (ForSome (M.content media.old) (λ volumes. Appends (C.taken console.old) (C.taken console.new) (line_over volumes candidate.now))) }
+    ensures front { OnErr result (ForSome (M.content media.old) (λ volumes. AppendsFront (C.taken console.old) (C.taken console.new) (line_over volumes candidate.now))) }
     ensures kept { M.content media.new ≡ M.content media.old }
     ensures media { result ≡ Err Stop.Media → Rose (M.faults media.old) (M.faults media.new) }
     ensures sink { result ≡ Err Stop.Sink → Rose (C.faults console.old) (C.faults console.new) }

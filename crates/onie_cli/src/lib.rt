@@ -6,14 +6,18 @@
 #![tactic(auto)]
 
 mod board;
+mod change;
+mod command;
 mod discovery;
+mod fields;
 mod line;
+mod loading;
 mod local;
 mod refusal;
 mod status;
 mod top;
 
-pub use status::{EepromKind, Outcome, Status};
+pub use status::{EepromKind, Outcome, RefusedKind, Status};
 pub use top::onie;
 
 #[cfg(test)]

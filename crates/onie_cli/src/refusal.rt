@@ -3,9 +3,9 @@
 ghost use Rattle.std.specs.Prelude.{◌≡◌, ◌≢◌, ◌≤◌, ◌⊎◌, [], IfErr};
 ghost use Rattle.bd_dev.specs.Faults.{Rose};
 ghost use Rattle.bd_dev.specs.Sink.{Appends, AppendsFront};
-ghost use Rattle.onie_cli.specs.Refusal.{ident_line_of, refusal_line_of, tlv_line_of};
+ghost use Rattle.onie_cli.specs.Refusal.{ident_line_of, refusal_line_of, refused_line_of, tlv_line_of};
 
-use crate::status::{EepromKind, Status};
+use crate::status::{EepromKind, RefusedKind, Status};
 use bd_dev::{Sink, write_all};
 use tlvinfo::{IdentFault, TlvKind};
 
@@ -35,6 +35,16 @@ fn ident_line(fault: IdentFault) -> &'static [u8]
     }
 }
 
+fn refused_line(kind: RefusedKind) -> &'static [u8]
+    ensures { result.now ≡ refused_line_of kind }
+{
+    match kind {
+        RefusedKind::BadCode => b"onie: refused: bad code\n",
+        RefusedKind::BadValue => b"onie: refused: bad value\n",
+        RefusedKind::TooLong => b"onie: refused: too long\n",
+    }
+}
+
 /// The line of a status: empty where it has none.
 fn refusal_line(status: Status) -> &'static [u8]
     ensures { result.now ≡ refusal_line_of status }
@@ -46,18 +56,25 @@ fn refusal_line(status: Status) -> &'static [u8]
         Status::BadEeprom(EepromKind::Ident(fault)) => ident_line(fault),
         Status::EepromFault => b"onie: eeprom fault\n",
         Status::MediaFault => b"onie: media fault\n",
+        Status::Refused(kind) => refused_line(kind),
     }
 }
 
-/// Writes the line of a status. Answers that status, or the console's fault where the write fails.
+/// Writes the line of a status. Answers that status, or the console's fault where the write fails. Nothing is written
+/// of a status without a line.
 pub(crate) fn report<C: Sink>(console: &mut C, status: Status) -> Status
     ensures answer { (result ≡ status) ⊎ (result ≡ Status.SinkFault) }
     ensures written { result ≢ Status.SinkFault → Appends (C.taken console.old) (C.taken console.new) (refusal_line_of status) }
     ensures front { AppendsFront (C.taken console.old) (C.taken console.new) (refusal_line_of status) }
+    ensures silent { refusal_line_of status ≡ [] → result ≡ status }
     ensures fault { result ≢ status → Rose (C.faults console.old) (C.faults console.new) }
     ensures later { C.faults console.old ≤ C.faults console.new }
 {
-    match write_all(console, refusal_line(status)) {
+    let line = refusal_line(status);
+    if line.is_empty() {
+        return status;
+    }
+    match write_all(console, line) {
         Ok(()) => status,
         Err(_) => Status::SinkFault,
     }

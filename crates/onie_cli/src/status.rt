@@ -11,6 +11,8 @@ use tlvinfo::{IdentFault, TlvKind};
 pub enum Outcome {
     /// It printed what was asked for.
     Printed,
+    /// It stored what was asked for.
+    Stored,
 }
 
 /// Why an EEPROM holds no identity.
@@ -22,6 +24,17 @@ pub enum EepromKind {
     /// Its fields identify no board.
     #[error("{0}")]
     Ident(IdentFault),
+}
+
+/// Why a change was refused.
+#[derive(Clone, Copy, Debug, PartialEq, Eq)]
+pub enum RefusedKind {
+    /// The code is that of the checksum, which is computed.
+    BadCode,
+    /// The text spells no value of the code.
+    BadValue,
+    /// The whole would pass 2,048 bytes.
+    TooLong,
 }
 
 /// How a call ended.
@@ -39,6 +52,8 @@ pub enum Status {
     MediaFault,
     /// The console counted a fault.
     SinkFault,
+    /// The change that the words ask for was refused.
+    Refused(RefusedKind),
     /// Memory ran out.
     Memory,
 }
@@ -55,6 +70,7 @@ impl Status {
             Status::EepromFault => 7,
             Status::MediaFault => 8,
             Status::SinkFault => 10,
+            Status::Refused(_) => 12,
             Status::Memory => 13,
         }
     }

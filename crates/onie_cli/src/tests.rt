@@ -3,7 +3,7 @@
 ghost use Rattle.std.specs.Prelude.{◌≤◌, length};
 
 use super::*;
-use bd_dev::{Bytes, DevFault, Failed, Media, MemEeprom, MemMedia, MemSink, Names};
+use bd_dev::{Bytes, DevFault, Eeprom, Failed, Media, MemEeprom, MemMedia, MemSink, Names};
 use std::alloc::Global;
 use std::test::Fail;
 use tlvinfo::{IdentFault, TlvKind};
@@ -76,11 +76,44 @@ const NO_FAILS: Fails = Fails {
 fn run(alloc: Global, line: &str, bytes: &[u8], fails: Fails) -> Result<(Status, MemSink), Fail>
     requires { length bytes.now ≤ 2048 }
 {
-    let words = words(alloc, line)?;
     let mut eeprom = MemEeprom::new(alloc, bytes, &[fails.eeprom])?;
+    run_on(alloc, line, &mut eeprom, fails)
+}
+
+/// The same over an EEPROM that stays.
+fn run_on(
+    alloc: Global,
+    line: &str,
+    eeprom: &mut MemEeprom,
+    fails: Fails,
+) -> Result<(Status, MemSink), Fail> {
+    let words = words(alloc, line)?;
+    run_words(alloc, &words, eeprom, fails)
+}
+
+/// The same with words that may hold spaces.
+fn call(
+    alloc: Global,
+    list: &[&str],
+    eeprom: &mut MemEeprom,
+    fails: Fails,
+) -> Result<(Status, MemSink), Fail> {
+    let mut words = Vec::new(alloc);
+    for word in list {
+        words.push(String::from_str(alloc, word)?)?;
+    }
+    run_words(alloc, &words, eeprom, fails)
+}
+
+fn run_words(
+    alloc: Global,
+    words: &[String],
+    eeprom: &mut MemEeprom,
+    fails: Fails,
+) -> Result<(Status, MemSink), Fail> {
     let mut media = media(alloc, &[fails.media])?;
     let mut console = MemSink::new(alloc, &[fails.console])?;
-    let status = onie(alloc, &words, &mut eeprom, &mut media, &mut console);
+    let status = onie(alloc, words, eeprom, &mut media, &mut console);
     Ok((status, console))
 }
 
@@ -111,7 +144,16 @@ fn other_words_are_usage(rt: HostRuntime) -> Result<(), Fail> {
         "boot rounds=0",
         "boot rounds=01",
         "boot boot",
+        "eeprom set",
+        "eeprom set 0x21",
         "eeprom set 21 X",
+        "eeprom set 0X21 X",
+        "eeprom set 0x2 X",
+        "eeprom set 0x021 X",
+        "eeprom set 0x+1 X",
+        "eeprom set 0x21 X Y",
+        "eeprom get 0x21 X",
+        "eeprom all",
         "discover all",
         "Discover",
     ] {
@@ -247,14 +289,201 @@ fn a_file_that_shrinks_is_short(rt: HostRuntime) -> Result<(), Fail> {
 }
 
 #[test]
+fn prints_the_fields(rt: HostRuntime) -> Result<(), Fail> {
+    let (status, console) = run(rt.alloc(), "eeprom", BOARD, NO_FAILS)?;
+    assert_eq!(rt; status, Status::Done(Outcome::Printed));
+    let text = b"0x28 x86_64-kvm_x86_64-r0\n0x24 00:11:22:33:44:55\n".as_slice();
+    assert_eq!(rt; console.as_slice(), text);
+    Ok(())
+}
+
+/// What `eeprom` prints where a call of a device fails, the console's in each line.
+#[test]
+fn a_fault_ends_the_fields(rt: HostRuntime) -> Result<(), Fail> {
+    for (eeprom, console, want, text) in [
+        (
+            1,
+            0,
+            Status::EepromFault,
+            b"onie: eeprom fault\n".as_slice(),
+        ),
+        (0, 1, Status::SinkFault, b""),
+        (0, 2, Status::SinkFault, b"0x28 x86_64-kvm_x86_64-r0\n"),
+    ] {
+        let fails = Fails {
+            eeprom,
+            media: 0,
+            console,
+        };
+        let (status, console) = run(rt.alloc(), "eeprom", BOARD, fails)?;
+        assert_eq!(rt; status, want);
+        assert_eq!(rt; console.as_slice(), text);
+    }
+    Ok(())
+}
+
+/// The board's bytes with the field 2A, whose value is 256.
+const WITH_256: &[u8] =
+    b"TlvInfo\0\x01\0((\x14x86_64-kvm_x86_64-r0$\x06\0\x11\"3DU*\x02\x01\0\xfe\x04^i\x15\x04";
+
+/// A status with its line, and what the EEPROM holds then.
+#[test]
+fn sets_one_field(rt: HostRuntime) -> Result<(), Fail> {
+    let bad_code = Status::Refused(RefusedKind::BadCode);
+    let bad_value = Status::Refused(RefusedKind::BadValue);
+    for (line, failing, status, text, bytes) in [
+        (
+            "eeprom set 0x2A 256",
+            0,
+            Status::Done(Outcome::Stored),
+            "",
+            WITH_256,
+        ),
+        (
+            "eeprom set 0x2a 256",
+            0,
+            Status::Done(Outcome::Stored),
+            "",
+            WITH_256,
+        ),
+        (
+            "eeprom set 0x2A 0256",
+            0,
+            bad_value,
+            "onie: refused: bad value\n",
+            BOARD,
+        ),
+        (
+            "eeprom set 0x2A 65536",
+            0,
+            bad_value,
+            "onie: refused: bad value\n",
+            BOARD,
+        ),
+        (
+            "eeprom set 0xFE 00",
+            0,
+            bad_code,
+            "onie: refused: bad code\n",
+            BOARD,
+        ),
+        (
+            "eeprom set 0xfe 00000000",
+            0,
+            bad_code,
+            "onie: refused: bad code\n",
+            BOARD,
+        ),
+        (
+            "eeprom set 0x2A 256",
+            1,
+            Status::EepromFault,
+            "onie: eeprom fault\n",
+            BOARD,
+        ),
+        (
+            "eeprom set 0x2A 256",
+            2,
+            Status::EepromFault,
+            "onie: eeprom fault\n",
+            BOARD,
+        ),
+    ] {
+        let mut eeprom = MemEeprom::new(rt.alloc(), BOARD, &[failing])?;
+        let (answer, console) = run_on(rt.alloc(), line, &mut eeprom, NO_FAILS)?;
+        assert_eq!(rt; answer, status, "{line}");
+        assert_eq!(rt; console.as_slice(), text.as_bytes());
+        let mut out = [0; 2048];
+        let length = match eeprom.load(&mut out) {
+            Ok(length) => length,
+            Err(_) => eeprom.load(&mut out)?,
+        };
+        assert_eq!(rt; &out[..length], bytes);
+    }
+    Ok(())
+}
+
+/// A text of each kind of value, set and printed, and set once more.
+#[test]
+fn what_is_set_is_printed(rt: HostRuntime) -> Result<(), Fail> {
+    for (code, text) in [
+        ("0x21", "Switch 48x10G"),
+        ("0x24", "00:1B:2C:3D:4E:FF"),
+        ("0x25", "02/29/2024 23:59:58"),
+        ("0x26", "255"),
+        ("0x2A", "65535"),
+        ("0x2C", "DE"),
+        ("0xFD", "00a1ff7e"),
+        ("0xAB", ""),
+    ] {
+        let mut eeprom = MemEeprom::new(rt.alloc(), BOARD, &[])?;
+        let stored = Status::Done(Outcome::Stored);
+        let (status, _) = call(
+            rt.alloc(),
+            &["eeprom", "set", code, text],
+            &mut eeprom,
+            NO_FAILS,
+        )?;
+        assert_eq!(rt; status, stored, "{code}");
+        let (status, console) = call(rt.alloc(), &["eeprom"], &mut eeprom, NO_FAILS)?;
+        assert_eq!(rt; status, Status::Done(Outcome::Printed));
+        let line = format!(in rt.alloc(); "{code} {text}\n")?;
+        assert!(rt;
+            str::from_utf8(console.as_slice())?.contains(line.as_str()),
+            "{code}"
+        );
+    }
+    Ok(())
+}
+
+/// Sets a vendor extension of so many bytes, each zero.
+fn extend(alloc: Global, eeprom: &mut MemEeprom, count: usize) -> Result<Status, Fail> {
+    let mut line = String::from_str(alloc, "eeprom set 0xFD ")?;
+    for _ in 0..count {
+        line.push_str("00")?;
+    }
+    let (status, _) = run_on(alloc, line.as_str(), eeprom, NO_FAILS)?;
+    Ok(status)
+}
+
+#[test]
+fn a_full_eeprom_takes_no_more(rt: HostRuntime) -> Result<(), Fail> {
+    let mut eeprom = MemEeprom::new(rt.alloc(), BOARD, &[])?;
+    for _ in 0..7 {
+        assert_eq!(rt;
+            extend(rt.alloc(), &mut eeprom, 255)?,
+            Status::Done(Outcome::Stored)
+        );
+    }
+    let too_long = Status::Refused(RefusedKind::TooLong);
+    assert_eq!(rt; extend(rt.alloc(), &mut eeprom, 201)?, too_long);
+    assert_eq!(rt;
+        extend(rt.alloc(), &mut eeprom, 200)?,
+        Status::Done(Outcome::Stored)
+    );
+    let mut out = [0; 2048];
+    assert_eq!(rt; eeprom.load(&mut out)?, 2048);
+    let (status, console) = run_on(rt.alloc(), "eeprom set 0x21 X", &mut eeprom, NO_FAILS)?;
+    assert_eq!(rt; status, too_long);
+    assert_eq!(rt; console.as_slice(), b"onie: refused: too long\n".as_slice());
+    let mut after = [0; 2048];
+    assert_eq!(rt; eeprom.load(&mut after)?, 2048);
+    assert_eq!(rt; after, out);
+    Ok(())
+}
+
+/// The number of each status.
+#[test]
 fn numbers_of_the_statuses(rt: HostRuntime) {
     for (status, number) in [
         (Status::Done(Outcome::Printed), 0),
+        (Status::Done(Outcome::Stored), 0),
         (Status::Usage, 2),
         (Status::BadEeprom(EepromKind::Tlv(TlvKind::NoCrc)), 4),
         (Status::EepromFault, 7),
         (Status::MediaFault, 8),
         (Status::SinkFault, 10),
+        (Status::Refused(RefusedKind::BadCode), 12),
         (Status::Memory, 13),
     ] {
         assert_eq!(rt; status.number(), number);

@@ -1,32 +1,32 @@
 //! The top call.
 
-ghost use Rattle.std.specs.Prelude.{◌≡◌, ◌≢◌, ◌≤◌, ◌⊎◌, ◌↔◌, ◌∷◌, [], IsTrue, List, ℕ, Some, map, string_bytes};
+ghost use Rattle.std.specs.Prelude.{◌≡◌, ◌≢◌, ◌≤◌, ◌⊎◌, List, ℕ, map, string_bytes};
 ghost use Rattle.std.specs.Option.{ForSome};
 ghost use Rattle.bd_dev.specs.Faults.{Rose};
 ghost use Rattle.bd_dev.specs.Sink.{Appends};
 ghost use Rattle.bd_dev.specs.Volumes.{Volume};
 ghost use Rattle.tlvinfo.specs.Identity.{Board};
+ghost use Rattle.tlvinfo.specs.TlvInfo.{Field, Tlv};
 ghost use Rattle.onie_cli.specs.Board.{HoldsBoard, IsRefused, IsAfterBoard, IsAfterRefusal};
-ghost use Rattle.onie_cli.specs.Console.{IsDiscoverText, ComesSoFar, Prints, PrintsBoard};
+ghost use Rattle.onie_cli.specs.Console.{ComesSoFar, Prints};
+ghost use Rattle.onie_cli.specs.Discover.{Discovers, IsDiscoverText, PrintsBoard};
+ghost use Rattle.onie_cli.specs.Eeprom.{IsAfterFields, IsFieldsText, PrintsEeprom, PrintsFields};
+ghost use Rattle.onie_cli.specs.EepromSet.{SetsField};
+ghost use Rattle.onie_cli.specs.Fields.{RefusesUnreadable};
 ghost use Rattle.onie_cli.specs.Refusal.{refusal_line_of};
 ghost use Rattle.onie_cli.specs.Status.{IsBeforeRun};
-ghost use Rattle.onie_cli.specs.Words.{IsDiscover};
+ghost use Rattle.onie_cli.specs.Words.{IsDiscover, IsEeprom, IsEepromSet, IsUsage};
 
-use crate::board::board_identity;
+use crate::board::load_identity;
+use crate::change::set_field;
+use crate::command::{Command, read_words};
 use crate::discovery::{Stop, print_candidates};
+use crate::fields::print_fields;
+use crate::loading::load_info;
 use crate::refusal::report;
 use crate::status::{EepromKind, Outcome, Status};
 use bd_dev::{Eeprom, Media, Sink};
 use std::alloc::Global;
-
-fn is_discover(words: &[String]) -> bool
-    ensures { IsTrue result ↔ IsDiscover (map string_bytes words.now) }
-{
-    match words {
-        [word] => word.as_str() == "discover",
-        _ => false,
-    }
-}
 
 fn discover<E: Eeprom, M: Media, C: Sink>(
     alloc: Global,
@@ -35,6 +35,7 @@ fn discover<E: Eeprom, M: Media, C: Sink>(
     console: &mut C,
 ) -> Status
     ensures no_usage { result ≢ Status.Usage }
+    ensures kept { E.content eeprom.new ≡ E.content eeprom.old }
     ensures eeprom { result ≡ Status.EepromFault → Rose (E.faults eeprom.old) (E.faults eeprom.new) }
     ensures media { result ≡ Status.MediaFault → Rose (M.faults media.old) (M.faults media.new) }
     ensures sink { result ≡ Status.SinkFault → Rose (C.faults console.old) (C.faults console.new) }
@@ -48,7 +49,7 @@ fn discover<E: Eeprom, M: Media, C: Sink>(
     ensures quiet { IsBeforeRun result → C.taken console.new ≡ C.taken console.old }
     ensures console { (text : List ℕ) → IsDiscoverText (E.content eeprom.old) (M.content media.old) text → ComesSoFar text result (C.taken console.old) (C.taken console.new) }
 {
-    let identity = match board_identity(alloc, eeprom) {
+    let identity = match load_identity(alloc, eeprom) {
         Ok(identity) => identity,
         Err(status) => return status,
     };
@@ -60,11 +61,38 @@ fn discover<E: Eeprom, M: Media, C: Sink>(
     }
 }
 
+fn print_eeprom<E: Eeprom, C: Sink>(alloc: Global, eeprom: &mut E, console: &mut C) -> Status
+    ensures eeprom { result ≡ Status.EepromFault → Rose (E.faults eeprom.old) (E.faults eeprom.new) }
+    ensures sink { result ≡ Status.SinkFault → Rose (C.faults console.old) (C.faults console.new) }
+    ensures eeprom_later { E.faults eeprom.old ≤ E.faults eeprom.new }
+    ensures sink_later { C.faults console.old ≤ C.faults console.new }
+    ensures kept { E.content eeprom.new ≡ E.content eeprom.old }
+    ensures no_usage { result ≢ Status.Usage }
+    ensures no_media { result ≢ Status.MediaFault }
+    ensures unreadable { RefusesUnreadable (E.content eeprom.old) result }
+    ensures readable { ForSome (E.content eeprom.old) (λ bytes. (fields : List Field) → Tlv bytes fields → IsAfterFields result) }
+    ensures printed { result ≡ Status.Done Outcome.Printed → ForSome (E.content eeprom.old) (λ bytes. PrintsFields bytes (C.taken console.old) (C.taken console.new)) }
+    ensures quiet { IsBeforeRun result → C.taken console.new ≡ C.taken console.old }
+    ensures console { ForSome (E.content eeprom.old) (λ bytes. (text : List ℕ) → IsFieldsText bytes text → ComesSoFar text result (C.taken console.old) (C.taken console.new)) }
+{
+    let info = match load_info(alloc, eeprom) {
+        Ok(info) => info,
+        Err(status) => return status,
+    };
+    match print_fields(alloc, &info, console) {
+        Ok(()) => Status::Done(Outcome::Printed),
+        Err(Stop::Media) => Status::MediaFault,
+        Err(Stop::Sink) => Status::SinkFault,
+        Err(Stop::Memory) => Status::Memory,
+    }
+}
+
 /// Does what the words say over the devices, and answers how it went.
 ///
 /// The words are those after the program's name. `discover` alone lists the candidates on local media for installing
-/// on the board that the EEPROM identifies, a line each, with what each is found to be. Other words are no command.
-/// A refusal writes its line on the console.
+/// on the board that the EEPROM identifies, a line each, with what each is found to be. `eeprom` alone prints the
+/// fields of the EEPROM, a line each, and `eeprom set CODE TEXT` sets the field of the code to the value that the text
+/// spells and stores the fields. Other words are no command. A refusal writes its line on the console.
 pub fn onie<E: Eeprom, M: Media, C: Sink>(
     alloc: Global,
     words: &[String],
@@ -73,33 +101,34 @@ pub fn onie<E: Eeprom, M: Media, C: Sink>(
     console: &mut C,
 ) -> Status
     // A fault is answered only where that device counted one, and no count falls.
-    ensures eeprom { result ≡ Status.EepromFault → Rose (E.faults eeprom.old) (E.faults eeprom.new) }
-    ensures media { result ≡ Status.MediaFault → Rose (M.faults media.old) (M.faults media.new) }
-    ensures sink { result ≡ Status.SinkFault → Rose (C.faults console.old) (C.faults console.new) }
+    ensures eeprom_fault { result ≡ Status.EepromFault → Rose (E.faults eeprom.old) (E.faults eeprom.new) }
+    ensures media_fault { result ≡ Status.MediaFault → Rose (M.faults media.old) (M.faults media.new) }
+    ensures sink_fault { result ≡ Status.SinkFault → Rose (C.faults console.old) (C.faults console.new) }
     ensures eeprom_later { E.faults eeprom.old ≤ E.faults eeprom.new }
     ensures media_later { M.faults media.old ≤ M.faults media.new }
     ensures sink_later { C.faults console.old ≤ C.faults console.new }
 
     // Words that are no command, and they alone, are refused as such.
-    ensures usage { result ≡ Status.Usage → ¬ IsDiscover (map string_bytes words.now) }
-    ensures other_words { ¬ IsDiscover (map string_bytes words.now) → (result ≡ Status.Usage) ⊎ (result ≡ Status.SinkFault) }
+    ensures usage { result ≡ Status.Usage → IsUsage (map string_bytes words.now) }
+    ensures other_words { IsUsage (map string_bytes words.now) → (result ≡ Status.Usage) ⊎ (result ≡ Status.SinkFault) }
 
-    // An EEPROM without an identity, and it alone, is refused, by the first fault in it.
-    ensures bad { (kind : EepromKind) → result ≡ Status.BadEeprom kind → ForSome (E.content eeprom.old) (λ bytes. IsRefused bytes kind) }
-    ensures refused { IsDiscover (map string_bytes words.now) → ForSome (E.content eeprom.old) (λ bytes. (kind : EepromKind) → IsRefused bytes kind → IsAfterRefusal kind result) }
-    ensures identified { IsDiscover (map string_bytes words.now) → ForSome (E.content eeprom.old) (λ bytes. (board : Board) → HoldsBoard bytes board → IsAfterBoard result) }
-
-    // What a call that is done printed.
-    ensures printed { result ≡ Status.Done Outcome.Printed → ForSome (E.content eeprom.old) (λ bytes. PrintsBoard bytes (M.content media.old) (C.taken console.old) (C.taken console.new)) }
-
-    // What the console takes: the line of a refusal that comes before the run, and the whole text where all is told.
+    // A refusal that comes before the run writes its line and nothing else.
     ensures line { IsBeforeRun result → Appends (C.taken console.old) (C.taken console.new) (refusal_line_of result) }
-    ensures console { IsDiscover (map string_bytes words.now) → (text : List ℕ) → IsDiscoverText (E.content eeprom.old) (M.content media.old) text → Prints text result (C.taken console.old) (C.taken console.new) }
+
+    // Without a fault of its own, the EEPROM is as it was, but where the call stored in it.
+    ensures kept { result ≢ Status.Done Outcome.Stored → ¬ Rose (E.faults eeprom.old) (E.faults eeprom.new) → E.content eeprom.new ≡ E.content eeprom.old }
+
+    // What each command does.
+    ensures discover { IsDiscover (map string_bytes words.now) → Discovers (E.content eeprom.old) (M.content media.old) result (C.taken console.old) (C.taken console.new) }
+    ensures eeprom { IsEeprom (map string_bytes words.now) → PrintsEeprom (E.content eeprom.old) result (C.taken console.old) (C.taken console.new) }
+    ensures eeprom_set { (code : ℕ) (text : List ℕ) → IsEepromSet (map string_bytes words.now) code text
+        → SetsField code text (E.content eeprom.old) (E.content eeprom.new) result (C.taken console.old) (C.taken console.new) }
 {
-    let status = if is_discover(words) {
-        discover(alloc, eeprom, media, console)
-    } else {
-        Status::Usage
+    let status = match read_words(words) {
+        Some(Command::Discover) => discover(alloc, eeprom, media, console),
+        Some(Command::Eeprom) => print_eeprom(alloc, eeprom, console),
+        Some(Command::EepromSet { code, text }) => set_field(alloc, eeprom, code, text),
+        None => Status::Usage,
     };
     report(console, status)
 }

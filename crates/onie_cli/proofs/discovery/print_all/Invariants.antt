@@ -1,7 +1,7 @@
 use Rattle.std.proofs.Common.{◌≡◌, ◌≤◌, take}
 use Rattle.std.specs.Option.{ForSome}
 use Rattle.bd_dev.specs.Sink.{Appends}
-use Rattle.onie_cli.specs.Console.{lines_of}
+use Rattle.onie_cli.specs.Discover.{lines_of}
 use Rattle.onie_cli.proofs.discovery.print_all.Given as goal
 
 abbrev pub invariant-loop-candidate : goal.invariant-loop-candidate

@@ -1,22 +1,92 @@
-use Rattle.std.proofs.Common.{sym, subst, ◌∙◌}
-use Rattle.onie_cli.specs.Board.{IsAfterBoard}
+use Rattle.std.proofs.Common.{◌≡◌, ◌⊎◌, ℕ, List, Bor, [], refl, sym, ap, subst, ◌∙◌}
+use Rattle.onie_cli.specs.declared.status.Outcome.TheVariants as outcomes
+use Rattle.onie_cli.specs.declared.status.Status.TheVariants as statuses
+use Rattle.onie_cli.specs.Board.{IsAfterBoard, IsAfterRefusal}
 use Rattle.onie_cli.specs.Console.{ComesSoFar}
-use Rattle.onie_cli.proofs.Printing.{prints, after_board}
+use Rattle.onie_cli.specs.Discover.{PrintsBoard}
+use Rattle.onie_cli.specs.Eeprom.{IsAfterFields, PrintsFields}
+use Rattle.onie_cli.specs.EepromSet.{IsAfterRefusedChange, IsAfterStorable, StoresChange}
+use Rattle.onie_cli.proofs.Printing.{comes-nothing, done-same, prints, reported, reported-back, unreadable-reported}
+use Rattle.onie_cli.proofs.Words.{asked_discover, asked_eeprom, asked_set}
 use Rattle.onie_cli.proofs.top.onie.Goals as goal
-use Rattle.onie_cli.proofs.top.onie.Goals.{then-is_discover, else-is_discover}
+use Rattle.onie_cli.proofs.top.onie.Goals.{in-Some-Discover, in-Some-Eeprom, in-Some-EepromSet, in-None}
 
-pub returns-clause-identified : goal.returns-clause-identified
-returns-clause-identified g c = λ words bytes told board holds.
-    elim c.if-is_discover.branch [
-      | then-is_discover w ↦ after_board _ _ (subst IsAfterBoard (sym w.status-is) (w.discover-status.ensures.identified bytes told board holds)) c.report.ensures.answer
-      | else-is_discover w ↦ absurd (let e = sym w.if-is_discover.false ∙ c.is_discover.ensures.1 words in cc)
-    ]
+pub returns-clause-kept : goal.returns-clause-kept
+returns-clause-kept g c = λ no_store no_fault. elim c.match-read_words.branch [
+  | in-Some-Discover w ↦ rw w.eeprom-is w.discover-status.ensures.kept
+  | in-Some-Eeprom w ↦ rw w.eeprom-is w.print_eeprom-status.ensures.kept
+  | in-Some-EepromSet w ↦ rw w.eeprom-is (w.set_field-status.ensures.kept
+      (λ e. no_store (c.report.ensures.silent (rw (w.status-is, e) refl) ∙ w.status-is ∙ e))
+      (λ e. no_fault (rw w.eeprom-is (w.set_field-status.ensures.fault e))))
+  | in-None w ↦ rw w.eeprom-is refl
+]
 
-pub returns-clause-console : goal.returns-clause-console
-returns-clause-console g c = λ words text is.
-    elim c.if-is_discover.branch [
-      | then-is_discover w ↦
-          let so_far : ComesSoFar text c.if-is_discover.status (g.C.Sink.taken c.args.console.now) (g.C.Sink.taken c.if-is_discover.console) = rw (w.status-is, w.console-is) (w.discover-status.ensures.console text is) in
-          prints text _ _ _ _ _ so_far c.report.ensures.answer c.report.ensures.written c.report.ensures.front
-      | else-is_discover w ↦ absurd (let e = sym w.if-is_discover.false ∙ c.is_discover.ensures.1 words in cc)
-    ]
+pub returns-clause-discover : goal.returns-clause-discover
+returns-clause-discover g c = λ words. elim c.match-read_words.branch [
+  | in-Some-Discover w ↦
+      let d = w.discover-status.ensures in
+      let answer : (c.report.result ≡ w.discover-status.result) ⊎ (c.report.result ≡ statuses.SinkFault) = rw (← w.status-is) c.report.ensures.answer in
+      record {
+        bad = λ kind e. d.bad kind (reported-back w.discover-status.result c.report.result (statuses.BadEeprom kind) (λ f. cc) answer e);
+        refused = λ bytes told kind h. reported (IsAfterRefusal kind) w.discover-status.result c.report.result (d.refused bytes told kind h) tt answer;
+        identified = λ bytes told board h. reported IsAfterBoard w.discover-status.result c.report.result (d.identified bytes told board h) tt answer;
+        printed = λ e bytes told.
+            let done = reported-back w.discover-status.result c.report.result (statuses.Done outcomes.Printed) (λ f. cc) answer e in
+            let same = done-same outcomes.Printed c.match-read_words.status c.report.result _ _ (w.status-is ∙ done) e c.report.ensures.written in
+            subst (PrintsBoard bytes (g.M.Media.content c.args.media.now) (g.C.Sink.taken c.args.console.now)) (sym (same ∙ ap g.C.Sink.taken w.console-is)) (d.printed done bytes told);
+        console = λ text is.
+            let so_far : ComesSoFar text c.match-read_words.status (g.C.Sink.taken c.args.console.now) (g.C.Sink.taken c.match-read_words.console) = rw (w.status-is, w.console-is) (d.console text is) in
+            prints text _ _ _ _ _ so_far c.report.ensures.answer c.report.ensures.written c.report.ensures.front;
+      }
+  | in-Some-Eeprom w ↦ absurd (let e = sym w.in-Some-Eeprom.field-0-is ∙ asked_discover _ w.in-Some-Eeprom.field-0 words w.in-Some-Eeprom.ensures in cc)
+  | in-Some-EepromSet w ↦ absurd (let e = sym w.in-Some-EepromSet.field-0-is ∙ asked_discover _ w.in-Some-EepromSet.field-0 words w.in-Some-EepromSet.ensures in cc)
+  | in-None w ↦ absurd (w.in-None.ensures.no_discover words)
+]
+
+pub returns-clause-eeprom : goal.returns-clause-eeprom
+returns-clause-eeprom g c = λ words. elim c.match-read_words.branch [
+  | in-Some-Discover w ↦ absurd (let e = sym w.in-Some-Discover.field-0-is ∙ asked_eeprom _ w.in-Some-Discover.field-0 words w.in-Some-Discover.ensures in cc)
+  | in-Some-Eeprom w ↦
+      let d = w.print_eeprom-status.ensures in
+      let answer : (c.report.result ≡ w.print_eeprom-status.result) ⊎ (c.report.result ≡ statuses.SinkFault) = rw (← w.status-is) c.report.ensures.answer in
+      record {
+        unreadable = unreadable-reported _ w.print_eeprom-status.result c.report.result d.unreadable answer;
+        readable = λ bytes told fields h. reported IsAfterFields w.print_eeprom-status.result c.report.result (d.readable bytes told fields h) tt answer;
+        printed = λ e bytes told.
+            let done = reported-back w.print_eeprom-status.result c.report.result (statuses.Done outcomes.Printed) (λ f. cc) answer e in
+            let same = done-same outcomes.Printed c.match-read_words.status c.report.result _ _ (w.status-is ∙ done) e c.report.ensures.written in
+            subst (PrintsFields bytes (g.C.Sink.taken c.args.console.now)) (sym (same ∙ ap g.C.Sink.taken w.console-is)) (d.printed done bytes told);
+        console = λ bytes told text is.
+            let so_far : ComesSoFar text c.match-read_words.status (g.C.Sink.taken c.args.console.now) (g.C.Sink.taken c.match-read_words.console) = rw (w.status-is, w.console-is) (d.console bytes told text is) in
+            prints text _ _ _ _ _ so_far c.report.ensures.answer c.report.ensures.written c.report.ensures.front;
+      }
+  | in-Some-EepromSet w ↦ absurd (let e = sym w.in-Some-EepromSet.field-0-is ∙ asked_eeprom _ w.in-Some-EepromSet.field-0 words w.in-Some-EepromSet.ensures in cc)
+  | in-None w ↦ absurd (w.in-None.ensures.no_eeprom words)
+]
+
+pub returns-clause-eeprom_set : goal.returns-clause-eeprom_set
+returns-clause-eeprom_set g c = λ code text words. elim c.match-read_words.branch [
+  | in-Some-Discover w ↦ absurd (let e = sym w.in-Some-Discover.field-0-is ∙ (asked_set _ w.in-Some-Discover.field-0 code text words w.in-Some-Discover.ensures).1 in cc)
+  | in-Some-Eeprom w ↦ absurd (let e = sym w.in-Some-Eeprom.field-0-is ∙ (asked_set _ w.in-Some-Eeprom.field-0 code text words w.in-Some-Eeprom.ensures).1 in cc)
+  | in-Some-EepromSet w ↦
+      let d = w.set_field-status.ensures in
+      let answer : (c.report.result ≡ w.set_field-status.result) ⊎ (c.report.result ≡ statuses.SinkFault) = rw (← w.status-is) c.report.ensures.answer in
+      let asked = asked_set _ w.in-Some-EepromSet.field-0 code text words w.in-Some-EepromSet.ensures in
+      let e = sym w.in-Some-EepromSet.field-0-is ∙ asked.1 in
+      let same_code : w.in-Some-EepromSet.code ≡ code = cc in
+      let held : w.in-Some-EepromSet.text ≡ asked.0 = cc in
+      let same_text : w.in-Some-EepromSet.text.now ≡ text = ap (λ (t : Bor (List ℕ)). t.now) held ∙ sym asked.2 in
+      rw (← same_code, ← same_text) (record {
+        unreadable = unreadable-reported _ w.set_field-status.result c.report.result d.unreadable answer;
+        reason = λ kind e. d.reason kind (reported-back w.set_field-status.result c.report.result (statuses.Refused kind) (λ f. cc) answer e);
+        refused = λ bytes told kind h. reported (IsAfterRefusedChange kind) w.set_field-status.result c.report.result (d.refused bytes told kind h) tt answer;
+        storable = λ bytes told changed h. reported IsAfterStorable w.set_field-status.result c.report.result (d.storable bytes told changed h) tt answer;
+        stored = λ e bytes told.
+            subst (λ (eeprom : g.row.E.Denot). StoresChange w.in-Some-EepromSet.code w.in-Some-EepromSet.text.now bytes (g.E.Eeprom.content eeprom)) (sym w.eeprom-is)
+            (d.stored (reported-back w.set_field-status.result c.report.result (statuses.Done outcomes.Stored) (λ f. cc) answer e) bytes told);
+        console =
+            let so_far : ComesSoFar [] c.match-read_words.status (g.C.Sink.taken c.args.console.now) (g.C.Sink.taken c.match-read_words.console) = rw w.console-is (comes-nothing c.match-read_words.status (g.C.Sink.taken c.args.console.now)) in
+            prints [] _ _ _ _ _ so_far c.report.ensures.answer c.report.ensures.written c.report.ensures.front;
+      })
+  | in-None w ↦ absurd (w.in-None.ensures.no_eeprom_set code text words)
+]
