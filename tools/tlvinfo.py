@@ -198,3 +198,35 @@ def _check_last(eeprom: bytes, after: int, end: int) -> None:
     computed = zlib.crc32(eeprom[: after - 4])
     if kept != computed:
         raise DecodeError(Fault.CRC, kept=kept, computed=computed)
+
+
+def printed(code: int, value: bytes) -> str:
+    """The text of a value, as `onie eeprom` prints it: unprintable bytes of a text as `?`."""
+    kind = CODES[code].kind if code in CODES else Kind.RAW
+    if kind in (Kind.TEXT, Kind.DATE, Kind.LETTERS):
+        return "".join(chr(byte) if 0x20 <= byte <= 0x7E else "?" for byte in value)
+    if kind is Kind.MAC:
+        return value.hex(":").upper()
+    if kind in (Kind.BYTE, Kind.WORD):
+        return str(int.from_bytes(value, "big"))
+    return value.hex()
+
+
+def spelled(code: int, text: str) -> bytes:
+    """The value that a printed text spells, where no byte of it was unprintable."""
+    kind = CODES[code].kind if code in CODES else Kind.RAW
+    if kind in (Kind.TEXT, Kind.DATE, Kind.LETTERS):
+        return text.encode("ascii")
+    if kind is Kind.MAC:
+        return bytes.fromhex(text.replace(":", ""))
+    if kind in (Kind.BYTE, Kind.WORD):
+        return int(text).to_bytes(CODES[code].least, "big")
+    return bytes.fromhex(text)
+
+
+def with_value(fields: list[Field], code: int, value: bytes) -> list[Field]:
+    """`fields` with the value in place of the first of its code, or at the end; FD at the end."""
+    places = [place for place, field in enumerate(fields) if field[0] == code]
+    if code == 0xFD or not places:
+        return [*fields, (code, value)]
+    return [*fields[: places[0]], (code, value), *fields[places[0] + 1 :]]
