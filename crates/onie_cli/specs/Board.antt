@@ -6,6 +6,7 @@ use Rattle.tlvinfo.specs.Reading.{reading}
 use Rattle.tlvinfo.specs.Identity.{Board, Identifies, Lacks}
 use Rattle.onie_cli.specs.declared.status.EepromKind.{EepromKind}
 use Rattle.onie_cli.specs.declared.status.EepromKind.TheVariants as eeproms
+use Rattle.onie_cli.specs.declared.status.Outcome.TheVariants as outcomes
 use Rattle.onie_cli.specs.declared.status.Status.{Status}
 use Rattle.onie_cli.specs.declared.status.Status.TheVariants as statuses
 
@@ -31,9 +32,9 @@ IsLoadRefusal content statuses.SinkFault = ⊥
 IsLoadRefusal content (statuses.Refused kind) = ⊥
 IsLoadRefusal content statuses.Memory = Unit {0}
 
--- a status where the EEPROM holds a board: the run's end, a device's fault or want of memory
+-- a status where the EEPROM holds a board: the text was printed, a device's fault or want of memory
 abbrev pub IsAfterBoard : Status → Type 0
-IsAfterBoard (statuses.Done outcome) = Unit {0}
+IsAfterBoard (statuses.Done outcome) = outcome ≡ outcomes.Printed
 IsAfterBoard statuses.Usage = ⊥
 IsAfterBoard (statuses.BadEeprom kind) = ⊥
 IsAfterBoard statuses.EepromFault = Unit {0}

@@ -118,6 +118,10 @@ pub fn onie<E: Eeprom, M: Media, C: Sink>(
     // Without a fault of its own, the EEPROM is as it was, but where the call stored in it.
     ensures kept { result ≢ Status.Done Outcome.Stored → ¬ Rose (E.faults eeprom.old) (E.faults eeprom.new) → E.content eeprom.new ≡ E.content eeprom.old }
 
+    // No command but `eeprom set` stores in the EEPROM, and none but `discover` calls the media.
+    ensures kept_by_others { ((code : ℕ) (text : List ℕ) → ¬ IsEepromSet (map string_bytes words.now) code text) → E.content eeprom.new ≡ E.content eeprom.old }
+    ensures media_unused { ¬ IsDiscover (map string_bytes words.now) → media.new ≡ media.old }
+
     // What each command does.
     ensures discover { IsDiscover (map string_bytes words.now) → Discovers (E.content eeprom.old) (M.content media.old) result (C.taken console.old) (C.taken console.new) }
     ensures eeprom { IsEeprom (map string_bytes words.now) → PrintsEeprom (E.content eeprom.old) result (C.taken console.old) (C.taken console.new) }

@@ -21,6 +21,22 @@ returns-clause-kept g c = λ no_store no_fault. elim c.match-read_words.branch [
   | in-None w ↦ rw w.eeprom-is refl
 ]
 
+pub returns-clause-kept_by_others : goal.returns-clause-kept_by_others
+returns-clause-kept_by_others g c = λ no_set. elim c.match-read_words.branch [
+  | in-Some-Discover w ↦ rw w.eeprom-is w.discover-status.ensures.kept
+  | in-Some-Eeprom w ↦ rw w.eeprom-is w.print_eeprom-status.ensures.kept
+  | in-Some-EepromSet w ↦ absurd (no_set w.in-Some-EepromSet.code w.in-Some-EepromSet.text.now (rw w.in-Some-EepromSet.field-0-is at w.in-Some-EepromSet.ensures))
+  | in-None w ↦ rw w.eeprom-is refl
+]
+
+pub returns-clause-media_unused : goal.returns-clause-media_unused
+returns-clause-media_unused g c = λ no_discover. elim c.match-read_words.branch [
+  | in-Some-Discover w ↦ absurd (no_discover (rw w.in-Some-Discover.field-0-is at w.in-Some-Discover.ensures))
+  | in-Some-Eeprom w ↦ w.media-is
+  | in-Some-EepromSet w ↦ w.media-is
+  | in-None w ↦ w.media-is
+]
+
 pub returns-clause-discover : goal.returns-clause-discover
 returns-clause-discover g c = λ words. elim c.match-read_words.branch [
   | in-Some-Discover w ↦
