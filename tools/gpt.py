@@ -1,4 +1,4 @@
-"""The GUID partition table of a disk image, written apart from the program that will read it.
+"""The GUID partition table of a disk image, written apart from the crate that reads it.
 
 A disk of sectors of 512 bytes holds its table twice: the primary copy after the first sector, and
 the backup copy at the end. A copy is a header sector and 32 sectors of entries, 33 sectors in all.
