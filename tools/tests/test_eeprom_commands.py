@@ -1,9 +1,5 @@
-"""`onie eeprom` and `onie eeprom set` against a reader and a writer of the format in Python.
+"""`onie eeprom` and `onie eeprom set` against a reader and a writer of the format in Python."""
 
-The environment variable ONIE names the executable; without it, it is crates/onie/out/onie.
-"""
-
-import os
 import random
 import resource
 import signal
@@ -17,9 +13,7 @@ from pathlib import Path
 import tlvinfo
 from tlvinfo import CODES, EEPROM_SIZE, Field, Kind
 
-TOP = Path(__file__).resolve().parents[2]
-PROGRAM = Path(os.environ.get("ONIE") or TOP / "crates/onie/out/onie").absolute()
-SECONDS = 20
+from tests.program import PROGRAM, SECONDS, needs_program
 
 SMALLEST = [(0x28, b"x86_64-kvm_x86_64-r0"), (0x24, bytes.fromhex("001122334455"))]
 PRINTABLE = bytes(range(0x20, 0x7F))
@@ -70,10 +64,7 @@ def refuse_writes() -> None:
     resource.setrlimit(resource.RLIMIT_FSIZE, (0, 0))
 
 
-@unittest.skipUnless(
-    PROGRAM.is_file() and os.access(PROGRAM, os.X_OK),
-    f"no executable stands at {PROGRAM}: build the program first",
-)
+@needs_program
 class EepromCommandsTest(unittest.TestCase):
     """The commands over a real file."""
 

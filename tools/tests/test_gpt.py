@@ -131,8 +131,8 @@ class Encoding(unittest.TestCase):
     def test_types(self) -> None:
         """The bytes of the two types at the front of an entry."""
         cases = [
-            (ONIE_BOOT, "D5 F7 12 74 56 A1 13 4B 81 DC 86 71 74 92 93 25"),
-            (LINUX_DATA, "AF 3D C6 0F 83 84 72 47 8E 79 3D 69 D8 47 7D E4"),
+            (ONIE_BOOT, "d5f71274" "56a1134b" "81dc8671" "74929325"),
+            (LINUX_DATA, "af3dc60f" "83847247" "8e793d69" "d8477de4"),
         ]
         for kind, wanted in cases:
             table = replace(SMALL, entries={1: replace(BOOT, kind=kind)})

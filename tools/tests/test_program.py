@@ -1,7 +1,4 @@
-"""The built program over boards that make_board makes.
-
-The environment variable ONIE names the executable; without it, it is crates/onie/out/onie.
-"""
+"""The built program over boards that make_board makes."""
 
 import os
 import shutil
@@ -14,9 +11,7 @@ from typing import BinaryIO
 import make_board
 import tlvinfo
 
-TOP = Path(__file__).resolve().parents[2]
-PROGRAM = Path(os.environ.get("ONIE") or TOP / "crates/onie/out/onie").absolute()
-SECONDS = 20
+from tests.program import PROGRAM, SECONDS, needs_program
 
 PLATFORM = (0x28, b"x86_64-kvm_x86_64-r0")
 MAC = (0x24, bytes.fromhex("001122334455"))
@@ -73,10 +68,7 @@ def lines(volume: str, answers: dict[str, str], names: list[str] = NAMES) -> str
     return text
 
 
-@unittest.skipUnless(
-    PROGRAM.is_file() and os.access(PROGRAM, os.X_OK),
-    f"no executable stands at {PROGRAM}: build the program first",
-)
+@needs_program
 class ProgramTest(unittest.TestCase):
     """A test with a board of its own."""
 
