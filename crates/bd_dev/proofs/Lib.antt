@@ -1,4 +1,8 @@
 pub mod Appending
+pub mod Ordering
+pub mod Places
 mod Lookups
 mod Adding
 mod Storing
+pub mod Windows
+pub mod Lines

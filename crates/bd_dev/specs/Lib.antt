@@ -3,3 +3,8 @@ pub mod Calls
 pub mod Eeprom
 pub mod Volumes
 pub mod Sink
+pub mod Content
+pub mod Plant
+pub mod Source
+pub mod Rows
+pub mod Net

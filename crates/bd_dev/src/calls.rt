@@ -9,10 +9,10 @@ use crate::faults::Failed;
 use std::alloc::Global;
 use std::marker::Model;
 
-/// The calls of a device: how many were made, the numbers of those that are to fail, and how many
+/// The calls of a device in memory: how many were made, the numbers of those that are to fail, and how many
 /// failed.
 #[derive(Drop)]
-pub(crate) struct CallCounter {
+pub struct CallCounter {
     made: u64,
     fails: Vec<u64>,
     faults: u64,
@@ -28,7 +28,7 @@ impl Model for CallCounter {
 
 impl CallCounter {
     /// No call yet, and the numbers from 1 of the calls that are to fail.
-    pub(crate) fn new(alloc: Global, fails: &[u64]) -> Result<CallCounter, Memory>
+    pub fn new(alloc: Global, fails: &[u64]) -> Result<CallCounter, Memory>
         ensures { IfOk result (λ calls. calls ≡ no_calls fails.now) }
     {
         Ok(CallCounter {
@@ -38,8 +38,15 @@ impl CallCounter {
         })
     }
 
+    /// How many calls were made.
+    pub fn made(&self) -> u64
+        ensures { result ≡ self.now.made }
+    {
+        self.made
+    }
+
     /// Counts a fault.
-    pub(crate) fn count_fault(&mut self)
+    pub fn count_fault(&mut self)
         ensures counted { self.new ≡ record self.old { faults = one_more self.old.faults } }
         ensures rose { Rose self.old.faults self.new.faults }
         ensures later { self.old.faults ≤ self.new.faults }
@@ -48,7 +55,7 @@ impl CallCounter {
     }
 
     /// Counts the next call, which fails where its number is listed.
-    pub(crate) fn next(&mut self) -> Result<(), Failed>
+    pub fn next(&mut self) -> Result<(), Failed>
         ensures listed { IsErr result ↔ IsListed self.old }
         ensures counted { self.new ≡ after_call self.old (is_err result) }
         ensures cause { HasCause self.old.faults self.new.faults result }

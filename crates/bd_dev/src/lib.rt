@@ -1,10 +1,12 @@
-//! The devices that the program talks to: an EEPROM, removable media and a sink of bytes.
+//! The devices that the program talks to: a plant (the disk and the flash), an EEPROM, removable media, a network, and
+//! a source and a sink of bytes.
 //!
 //! Each is a trait, whose clauses speak of what the device holds, where it tells that, and of its
 //! count of faults: the answers are what the device holds, a call that fails has raised the count
-//! and, but for an EEPROM's store, changes nothing that the device holds, and the count never
-//! falls. A device that tells nothing, as a real file, still keeps the bounds. The devices in
-//! memory tell all that they hold, and fail at the calls whose numbers they were given.
+//! and, but for a write of a plant and an EEPROM's store, changes nothing that the device holds,
+//! and the count never falls. A device that tells nothing, as a real file, still keeps the bounds.
+//! A plant's clauses speak of what a power cut at any moment may leave, too. The devices in memory
+//! tell all that they hold, and fail at the calls whose numbers they were given.
 #![tactic(auto)]
 
 mod bytes;
@@ -15,16 +17,25 @@ mod media;
 mod mem_eeprom;
 mod mem_media;
 mod mem_sink;
+mod mem_source;
 mod mem_volumes;
+mod net;
+mod plant;
 mod sink;
+mod source;
 #[cfg(test)]
 mod tests;
 
 pub use bytes::{Bytes, Memory, Names};
+pub use calls::CallCounter;
 pub use eeprom::Eeprom;
 pub use faults::{DevFault, Failed};
 pub use media::Media;
 pub use mem_eeprom::MemEeprom;
 pub use mem_media::MemMedia;
 pub use mem_sink::MemSink;
+pub use mem_source::MemSource;
+pub use net::{Arrival, Net, Next};
+pub use plant::{Area, Plant};
 pub use sink::{Sink, write_all};
+pub use source::Source;

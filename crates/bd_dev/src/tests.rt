@@ -143,3 +143,25 @@ fn sink_takes_bytes_in_order(rt: HostRuntime) -> Result<(), Fail> {
     assert_eq!(rt; sink.as_slice(), b"found file".as_slice());
     Ok(())
 }
+
+#[test]
+fn source_is_read_in_pieces(rt: HostRuntime) -> Result<(), Fail> {
+    let mut source = MemSource::new(rt.alloc(), b"0123456789", &[3])?;
+    let table: [(usize, Result<&[u8], Failed>); 7] = [
+        (4, Ok(b"0123")),
+        (0, Ok(b"")),
+        (4, Err(Failed)),
+        (4, Ok(b"4567")),
+        (4, Ok(b"89")),
+        (4, Ok(b"")),
+        (4, Ok(b"")),
+    ];
+    for (room, want) in table {
+        let mut out = [b'-'; 4];
+        match source.read(&mut out[..room]) {
+            Ok(count) => assert_eq!(rt; want, Ok(&out[..count])),
+            Err(failed) => assert_eq!(rt; want, Err(failed)),
+        }
+    }
+    Ok(())
+}

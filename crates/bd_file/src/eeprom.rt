@@ -3,9 +3,10 @@
 ghost use Rattle.std.specs.Prelude.{◌≡◌, ◌≤◌, None, IfOk, length};
 
 use crate::faults::FaultCount;
+use crate::paths::regular_length;
 use bd_dev::{Eeprom, Failed};
 use std::fs::{self, OpenFile, OpenOptions};
-use std::io::{self, ErrorKind, Read, Write};
+use std::io::{self, Read, Write};
 use std::marker::Model;
 use std::rt::Files;
 
@@ -59,18 +60,10 @@ impl<'a, R: Files> Eeprom for FileEeprom<'a, R> {
     }
 }
 
-// Opening a FIFO would wait for its other end, so only a regular file is opened.
-fn check_regular<R: Files>(rt: &R, path: &str) -> io::Result<()> {
-    if fs::metadata(rt, path)?.is_file() {
-        return Ok(());
-    }
-    Err(io::Error::from(ErrorKind::InvalidInput))
-}
-
 fn load_file<R: Files>(rt: &R, path: &str, out: &mut [u8; 2048]) -> io::Result<usize>
     ensures { IfOk result (λ n. n ≤ 2048) }
 {
-    check_regular(rt, path)?;
+    regular_length(rt, path)?;
     let mut file = fs::open(rt, path)?;
     fill(&mut file, out)
 }
@@ -92,7 +85,7 @@ fn fill<F: Read>(file: &mut F, out: &mut [u8]) -> io::Result<usize>
 
 // An error may come only as the system writes the bytes to the disk, so that is waited for.
 fn store_file<R: Files>(rt: &R, path: &str, bytes: &[u8]) -> io::Result<()> {
-    check_regular(rt, path)?;
+    regular_length(rt, path)?;
     let mut file = OpenOptions::new().write(true).open(rt, path)?;
     file.write_all(bytes)?;
     file.sync_data()

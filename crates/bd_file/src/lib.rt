@@ -9,8 +9,12 @@ mod eeprom;
 mod faults;
 mod media;
 mod paths;
+mod plant;
 mod sink;
+#[cfg(test)]
+mod tests;
 
 pub use eeprom::FileEeprom;
 pub use media::FolderMedia;
+pub use plant::FilePlant;
 pub use sink::OutSink;

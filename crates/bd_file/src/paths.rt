@@ -1,7 +1,9 @@
 //! Paths of files in volumes, and what the system says of them.
 
 use std::alloc::{AllocError, Global};
+use std::fs;
 use std::io::{self, ErrorKind};
+use std::rt::Files;
 
 /// The path of a file in a volume of a folder. None for a name that no file can have: one that is
 /// empty, `.` or `..`, or has a `/`, a 00 byte or bytes that are no UTF-8.
@@ -45,4 +47,14 @@ fn means_absent(kind: ErrorKind) -> bool {
             | ErrorKind::InvalidInput
             | ErrorKind::InvalidFilename
     )
+}
+
+/// The length of a regular file. An error where there is none: opening a FIFO would wait for its other end, so only a
+/// regular file is opened.
+pub(crate) fn regular_length<R: Files>(rt: &R, path: &str) -> io::Result<u64> {
+    let data = fs::metadata(rt, path)?;
+    if data.is_file() {
+        return Ok(data.len());
+    }
+    Err(io::Error::from(ErrorKind::InvalidInput))
 }

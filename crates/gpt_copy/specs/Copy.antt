@@ -1,10 +1,10 @@
 -- A copy of a GUID partition table, whose 33 sectors are taken in order of their addresses.
-use Rattle.std.specs.Prelude.{ℕ, List, take, drop}
+use Rattle.std.specs.Prelude.{ℕ, ◌+◌, ◌≤◌, List, take, drop, Bool, if◌then◌else◌, Option, Some, None}
 use Rattle.gpt_copy.specs.declared.table.Table.{Table}
 use Rattle.gpt_copy.specs.declared.table.Which.{Which}
 use Rattle.gpt_copy.specs.declared.table.Which.TheVariants.{Primary, Backup}
 use Rattle.gpt_copy.specs.Entries.{entries_of}
-use Rattle.gpt_copy.specs.Header.{HasRows}
+use Rattle.gpt_copy.specs.Header.{has_rows}
 use Rattle.gpt_copy.specs.Rows.{guid_at, number_at}
 
 -- the header's sector: the first of the primary copy, the last of the backup
@@ -17,10 +17,6 @@ abbrev pub entry_bytes : Which → List ℕ → List ℕ
 entry_bytes Primary bytes = drop 512 bytes
 entry_bytes Backup bytes = take 16384 bytes
 
--- all rows of the header hold, on a disk whose last sector has this address
-abbrev pub IsReadable : Which → ℕ → List ℕ → Type 0
-IsReadable which last bytes = HasRows which last (header_of which bytes) (entry_bytes which bytes)
-
 -- the table of a header and of entries
 unfoldable pub table_from : List ℕ → List ℕ → Table
 table_from header entries = record {
@@ -30,6 +26,19 @@ table_from header entries = record {
   entries = entries_of entries;
 }
 
--- the table that the bytes hold
-abbrev pub table_of : Which → List ℕ → Table
-table_of which bytes = table_from (header_of which bytes) (entry_bytes which bytes)
+-- all rows of the header hold, on a disk whose last sector has this address
+abbrev pub is_readable : Which → ℕ → List ℕ → Bool
+is_readable which last bytes = has_rows which last (header_of which bytes) (entry_bytes which bytes)
+
+-- the table that the bytes hold, or none where a row of the header does not hold
+unfoldable pub reading : Which → ℕ → List ℕ → Option Table
+reading which last bytes =
+    if is_readable which last bytes
+    then Some (table_from (header_of which bytes) (entry_bytes which bytes))
+    else None
+
+-- the table's usable range lies between the two copies, on a disk whose last sector has this address
+pub record FitsDisk (last : ℕ) (t : Table) : Type 0 where
+  pub from : 34 ≤ t.first_usable
+  pub ordered : t.first_usable ≤ t.last_usable
+  pub until : t.last_usable + 33 ≤ last

@@ -1,16 +1,16 @@
 //! The rows of the header.
 
-ghost use Rattle.std.specs.Prelude.{◌≡◌, ◌≤◌, ◌↔◌, IsTrue, length};
-ghost use Rattle.gpt_copy.specs.Header.{HasChecksums, HasForm, HasLayout, HasParts, HasPlaces, HasRows, HasUsable, without_checksum};
+ghost use Rattle.std.specs.Prelude.{◌≡◌, length};
+ghost use Rattle.gpt_copy.specs.Header.{has_checksums, has_form, has_layout, has_parts, has_places, has_rows, has_usable, without_checksum};
 
 use crate::rows::{read_u32, read_u64};
 use crate::table::Which;
 use bd_bytes::crc32;
 
 /// Whether the rows hold that are the same in every header.
-fn has_form(header: &[u8]) -> bool
+fn holds_form(header: &[u8]) -> bool
     requires { length header.now ≡ 512 }
-    ensures { IsTrue result ↔ HasForm header.now }
+    ensures { result ≡ has_form header.now }
 {
     header[..8] == b"EFI PART"[..]
         && read_u32(header, 8) == 0x0001_0000
@@ -21,24 +21,23 @@ fn has_form(header: &[u8]) -> bool
 }
 
 /// Whether the usable sectors lie between the two copies.
-fn has_usable(header: &[u8], last_lba: u64) -> bool
+fn holds_usable(header: &[u8], last_lba: u64) -> bool
     requires { length header.now ≡ 512 }
-    ensures { IsTrue result ↔ HasUsable last_lba header.now }
+    ensures { result ≡ has_usable last_lba header.now }
 {
     let first = read_u64(header, 40);
     let last = read_u64(header, 48);
-    34 <= first && first <= last && last <= last_lba && 33 <= last_lba - last
+    34 <= first && first <= last && last <= last_lba.saturating_sub(33)
 }
 
 /// Whether the rows hold that say where the parts of the copy stand.
-fn has_parts(header: &[u8], which: Which, last_lba: u64) -> bool
-    requires long { length header.now ≡ 512 }
-    requires disk { 32 ≤ last_lba }
-    ensures { IsTrue result ↔ HasParts which last_lba header.now }
+fn holds_parts(header: &[u8], which: Which, last_lba: u64) -> bool
+    requires { length header.now ≡ 512 }
+    ensures { result ≡ has_parts which last_lba header.now }
 {
     let (own, alternate, entries) = match which {
         Which::Primary => (1, last_lba, 2),
-        Which::Backup => (last_lba, 1, last_lba - 32),
+        Which::Backup => (last_lba, 1, last_lba.saturating_sub(32)),
     };
     read_u64(header, 24) == own
         && read_u64(header, 32) == alternate
@@ -57,33 +56,33 @@ fn cleared(header: &[u8]) -> [u8; 92]
 }
 
 /// Whether the checksums of the header and of the entries hold.
-fn has_checksums(header: &[u8], entries: &[u8]) -> bool
+fn holds_checksums(header: &[u8], entries: &[u8]) -> bool
     requires { length header.now ≡ 512 }
-    ensures { IsTrue result ↔ HasChecksums header.now entries.now }
+    ensures { result ≡ has_checksums header.now entries.now }
 {
     read_u32(header, 16) == crc32(&cleared(header)) && read_u32(header, 88) == crc32(entries)
 }
 
 /// Whether all places are right, on a disk whose last sector has the address.
-fn has_places(header: &[u8], which: Which, last_lba: u64) -> bool
+fn holds_places(header: &[u8], which: Which, last_lba: u64) -> bool
     requires { length header.now ≡ 512 }
-    ensures { IsTrue result ↔ HasPlaces which last_lba header.now }
+    ensures { result ≡ has_places which last_lba header.now }
 {
-    has_usable(header, last_lba) && has_parts(header, which, last_lba)
+    holds_usable(header, last_lba) && holds_parts(header, which, last_lba)
 }
 
 /// Whether all rows but the checksums hold.
-fn has_layout(header: &[u8], which: Which, last_lba: u64) -> bool
+fn holds_layout(header: &[u8], which: Which, last_lba: u64) -> bool
     requires { length header.now ≡ 512 }
-    ensures { IsTrue result ↔ HasLayout which last_lba header.now }
+    ensures { result ≡ has_layout which last_lba header.now }
 {
-    has_form(header) && has_places(header, which, last_lba)
+    holds_form(header) && holds_places(header, which, last_lba)
 }
 
 /// Whether all rows hold.
-pub(crate) fn has_rows(header: &[u8], entries: &[u8], which: Which, last_lba: u64) -> bool
+pub(crate) fn holds_rows(header: &[u8], entries: &[u8], which: Which, last_lba: u64) -> bool
     requires { length header.now ≡ 512 }
-    ensures { IsTrue result ↔ HasRows which last_lba header.now entries.now }
+    ensures { result ≡ has_rows which last_lba header.now entries.now }
 {
-    has_layout(header, which, last_lba) && has_checksums(header, entries)
+    holds_layout(header, which, last_lba) && holds_checksums(header, entries)
 }

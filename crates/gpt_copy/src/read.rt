@@ -1,11 +1,10 @@
 //! A table from the bytes of a copy.
 
-ghost use Rattle.std.specs.Prelude.{◌≡◌, length};
-ghost use Rattle.std.specs.Option.{SomeIff};
-ghost use Rattle.gpt_copy.specs.Copy.{IsReadable, entry_bytes, header_of, table_from, table_of};
+ghost use Rattle.std.specs.Prelude.{◌≡◌, length, IfSome};
+ghost use Rattle.gpt_copy.specs.Copy.{FitsDisk, entry_bytes, header_of, reading, table_from};
 
 use crate::entries::read_entries;
-use crate::header::has_rows;
+use crate::header::holds_rows;
 use crate::rows::{read_guid, read_u64};
 use crate::table::{Table, Which};
 
@@ -45,11 +44,13 @@ fn read_table(header: &[u8], entries: &[u8]) -> Table
 /// address. `None` exactly where a row of the header does not hold.
 ///
 /// Source: UEFI 2.10, sections 5.3.2 and 5.3.3, for 128 entries of 128 bytes and a header of 92 bytes.
+#[tactic(auto, unfolding(crate::specs::Copy::reading))]
 pub fn read_copy(bytes: &[u8; 16896], which: Which, last_lba: u64) -> Option<Table>
-    ensures { SomeIff result (IsReadable which last_lba bytes.now) (table_of which bytes.now) }
+    ensures read { result ≡ reading which last_lba bytes.now }
+    ensures fits { IfSome result (FitsDisk last_lba) }
 {
     let (header, entries) = sides(bytes, which);
-    if !has_rows(header, entries, which, last_lba) {
+    if !holds_rows(header, entries, which, last_lba) {
         return None;
     }
     Some(read_table(header, entries))

@@ -1,0 +1,5 @@
+mod Steps
+mod Replaying
+mod Calls
+mod Picking
+mod Crashes

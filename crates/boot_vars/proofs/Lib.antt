@@ -1,0 +1,5 @@
+pub mod BadLines
+mod Firsts
+pub mod Kept
+mod LineParts
+mod Listing

@@ -1,0 +1,3 @@
+pub mod Onie
+pub mod Judgement
+pub mod Booting
