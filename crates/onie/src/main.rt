@@ -1,10 +1,11 @@
 //! `onie`: makes the devices over the files of the folder that it runs in, and calls the top call.
 //!
-//! `eeprom.bin` is the identity EEPROM, the folders of `media/` are the volumes of local media, and the console is
-//! standard output. The exit status is the number of the status that the top call answers.
+//! `disk.img` and `flash.img` are the disk and the flash, `eeprom.bin` is the identity EEPROM, the folders of `media/`
+//! are the volumes of local media, and the console is standard output. The exit status is the number of the status that
+//! the top call answers.
 #![tactic(auto)]
 
-use bd_file::{FileEeprom, FolderMedia, OutSink};
+use bd_file::{FileEeprom, FilePlant, FolderMedia, OutSink};
 use onie_cli::{Status, onie};
 use std::env;
 use std::io::{self, ErrorKind};
@@ -28,10 +29,18 @@ fn run(rt: &(impl Env + Files + Print + AllocGlobal + Clone + Drop)) -> Status {
         // A word that is no text is in no command, as no words are.
         Err(_) => Vec::new(alloc),
     };
+    let mut plant = FilePlant::new(rt, "disk.img", "flash.img");
     let mut eeprom = FileEeprom::new(rt, "eeprom.bin");
     let mut media = FolderMedia::new(rt, "media");
     let mut console = OutSink::new(rt);
-    onie(alloc, &words, &mut eeprom, &mut media, &mut console)
+    onie(
+        alloc,
+        &words,
+        &mut plant,
+        &mut eeprom,
+        &mut media,
+        &mut console,
+    )
 }
 
 fn main(rt: HostRuntime) -> ExitCode {

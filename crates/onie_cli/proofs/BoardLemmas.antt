@@ -27,6 +27,8 @@ refused-unique bytes (eeproms.Ident j) (eeproms.Ident k) h i =
 pub load_refusal-board : (content : Option (List ℕ)) (bytes : List ℕ) (status : Status) (board : Board) → IsLoadRefusal content status → content ≡ Some bytes → HoldsBoard bytes board → IsAfterBoard status
 load_refusal-board content bytes (statuses.Done outcome) board h told holds = absurd h
 load_refusal-board content bytes statuses.Usage board h told holds = absurd h
+load_refusal-board content bytes (statuses.NotSound sound) board h told holds = absurd h
+load_refusal-board content bytes statuses.PlantFault board h told holds = absurd h
 load_refusal-board content bytes (statuses.BadEeprom kind) board h told holds = refused-or_board bytes kind board (h bytes told) holds
 load_refusal-board content bytes statuses.EepromFault board h told holds = tt
 load_refusal-board content bytes statuses.MediaFault board h told holds = absurd h
@@ -38,6 +40,8 @@ load_refusal-board content bytes statuses.Memory board h told holds = tt
 pub load_refusal-refused : (content : Option (List ℕ)) (bytes : List ℕ) (status : Status) (kind : EepromKind) → IsLoadRefusal content status → content ≡ Some bytes → IsRefused bytes kind → IsAfterRefusal kind status
 load_refusal-refused content bytes (statuses.Done outcome) kind h told refused = absurd h
 load_refusal-refused content bytes statuses.Usage kind h told refused = absurd h
+load_refusal-refused content bytes (statuses.NotSound sound) kind h told refused = absurd h
+load_refusal-refused content bytes statuses.PlantFault kind h told refused = absurd h
 load_refusal-refused content bytes (statuses.BadEeprom other) kind h told refused = refused-unique bytes other kind (h bytes told) refused
 load_refusal-refused content bytes statuses.EepromFault kind h told refused = tt
 load_refusal-refused content bytes statuses.MediaFault kind h told refused = absurd h
@@ -49,6 +53,8 @@ load_refusal-refused content bytes statuses.Memory kind h told refused = tt
 pub fields-or_load : (content : Option (List ℕ)) (status : Status) → IsFieldsRefusal content status → IsLoadRefusal content status
 fields-or_load content (statuses.Done outcome) h = h
 fields-or_load content statuses.Usage h = h
+fields-or_load content (statuses.NotSound sound) h = h
+fields-or_load content statuses.PlantFault h = h
 fields-or_load content (statuses.BadEeprom (eeproms.Tlv kind)) h = h
 fields-or_load content (statuses.BadEeprom (eeproms.Ident fault)) h = λ bytes told. absurd (h bytes told)
 fields-or_load content statuses.EepromFault h = h

@@ -22,6 +22,8 @@ unreadable-unique bytes (eeproms.Ident j) k h i = absurd h
 refusal-unreadable : (content : Option (List ℕ)) (bytes : List ℕ) (status : Status) (kind : EepromKind) → IsFieldsRefusal content status → content ≡ Some bytes → IsUnreadable bytes kind → IsAfterRefusal kind status
 refusal-unreadable content bytes (statuses.Done outcome) kind h told i = absurd h
 refusal-unreadable content bytes statuses.Usage kind h told i = absurd h
+refusal-unreadable content bytes (statuses.NotSound sound) kind h told i = absurd h
+refusal-unreadable content bytes statuses.PlantFault kind h told i = absurd h
 refusal-unreadable content bytes (statuses.BadEeprom other) kind h told i = unreadable-unique bytes other kind (h bytes told) i
 refusal-unreadable content bytes statuses.EepromFault kind h told i = tt
 refusal-unreadable content bytes statuses.MediaFault kind h told i = absurd h
@@ -40,6 +42,8 @@ refusal-refuses content status h = record {
 pub refusal-fields : (P : Status → Type 0) (content : Option (List ℕ)) (bytes : List ℕ) (status : Status) (fields : List Field) → P statuses.EepromFault → P statuses.Memory → IsFieldsRefusal content status → content ≡ Some bytes → Tlv bytes fields → P status
 refusal-fields P content bytes (statuses.Done outcome) fields p q h told i = absurd h
 refusal-fields P content bytes statuses.Usage fields p q h told i = absurd h
+refusal-fields P content bytes (statuses.NotSound sound) fields p q h told i = absurd h
+refusal-fields P content bytes statuses.PlantFault fields p q h told i = absurd h
 refusal-fields P content bytes (statuses.BadEeprom kind) fields p q h told i = absurd (unreadable-or_fields bytes kind fields (h bytes told) i)
 refusal-fields P content bytes statuses.EepromFault fields p q h told i = p
 refusal-fields P content bytes statuses.MediaFault fields p q h told i = absurd h

@@ -1,4 +1,3 @@
-pub mod Taken
 pub mod Lines
 pub mod Words
 pub mod Outcomes

@@ -2,10 +2,6 @@
 use Rattle.std.proofs.Common.{Result, Ok, Err}
 use Rattle.std.specs.Prelude.{OnOk, OnErr}
 
-pub OnErr-always : {T E P : Type 0} (r : Result T E) → P → OnErr r P
-OnErr-always (Ok x) p = tt
-OnErr-always (Err e) p = p
-
 pub OnOk-map : {T E P Q : Type 0} (r : Result T E) → (P → Q) → OnOk r P → OnOk r Q
 OnOk-map (Ok x) f p = f p
 OnOk-map (Err e) f p = p

@@ -9,11 +9,13 @@ use Rattle.onie_cli.specs.Board.{IsAfterRefusal}
 use Rattle.onie_cli.specs.Console.{ComesSoFar, Prints}
 use Rattle.onie_cli.specs.Fields.{RefusesUnreadable}
 use Rattle.onie_cli.specs.Refusal.{refusal_line_of}
-use Rattle.onie_cli.proofs.Taken.{Appends-front}
+use Rattle.bd_dev.proofs.Lines.{Appends-front}
 
 prints_line : (text : List ℕ) (status : Status) (old mid new : Option (List ℕ)) → ComesSoFar text status old mid → (status ≢ statuses.SinkFault → Appends mid new (refusal_line_of status)) → AppendsFront mid new (refusal_line_of status) → Prints text status old new
 prints_line text (statuses.Done outcome) old mid new h line front = record { mid = mid; so_far = h; line = line (λ e. cc) }
 prints_line text statuses.Usage old mid new h line front = record { mid = mid; so_far = h; line = line (λ e. cc) }
+prints_line text (statuses.NotSound kind) old mid new h line front = record { mid = mid; so_far = h; line = line (λ e. cc) }
+prints_line text statuses.PlantFault old mid new h line front = record { mid = mid; so_far = h; line = line (λ e. cc) }
 prints_line text (statuses.BadEeprom kind) old mid new h line front = record { mid = mid; so_far = h; line = line (λ e. cc) }
 prints_line text statuses.EepromFault old mid new h line front = record { mid = mid; so_far = h; line = line (λ e. cc) }
 prints_line text statuses.MediaFault old mid new h line front = record { mid = mid; so_far = h; line = line (λ e. cc) }
@@ -56,6 +58,8 @@ front-nothing old = Appends-front old old [] (Appends-same old)
 pub comes-nothing : (status : Status) (old : Option (List ℕ)) → ComesSoFar [] status old old
 comes-nothing (statuses.Done outcome) old = Appends-same old
 comes-nothing statuses.Usage old = refl
+comes-nothing (statuses.NotSound kind) old = refl
+comes-nothing statuses.PlantFault old = refl
 comes-nothing (statuses.BadEeprom kind) old = refl
 comes-nothing statuses.EepromFault old = refl
 comes-nothing statuses.MediaFault old = front-nothing old

@@ -7,7 +7,7 @@ use Rattle.std.specs.Str.Parse.{digits_value}
 use Rattle.bd_text.specs.Digits.{SpellsHex}
 use Rattle.onie_cli.specs.declared.command.Command.{Command}
 use Rattle.onie_cli.specs.declared.command.Command.TheVariants as commands
-use Rattle.onie_cli.specs.Words.{Asks, IsDiscover, IsEeprom, IsEepromSet, IsUsage}
+use Rattle.onie_cli.specs.Words.{Asks, IsDiscover, IsEeprom, IsEepromSet, IsStatus, IsUsage}
 
 four : {X : Type 0} (ws : List X) (a b c d : X) → 4 ≤ length ws → length ws < 5 → a ≡ get_or ws 0 a → b ≡ get_or ws 1 b → c ≡ get_or ws 2 c → d ≡ get_or ws 3 d → ws ≡ a ∷ b ∷ c ∷ d ∷ []
 four [] a b c d h k e f g i = absurd (omega arith)
@@ -39,6 +39,7 @@ is_eeprom_set words a b c text code digits w e f g spells = record { digits = di
 
 pub is_usage : (words : List (List ℕ)) (a b c text : List ℕ) → words ≡ a ∷ b ∷ c ∷ text ∷ [] → ((code : ℕ) (digits : List ℕ) → SpellsHex 2 code digits → c ≡ codes "0x" ++ digits → ⊥) → IsUsage words
 is_usage words a b c text w no_code = record {
+  no_status = λ e. let k = sym w ∙ e in cc;
   no_discover = λ e. let k = sym w ∙ e in cc;
   no_eeprom = λ e. let k = sym w ∙ e in cc;
   no_eeprom_set = λ code other is. no_code code is.digits is.spells (let k = sym w ∙ is.is in cc);
@@ -52,18 +53,31 @@ eeprom_set-unique words code other text rest h k =
     let texts : text ≡ rest = cc in
     (sym h.spells.hex.value ∙ ap (digits_value 16) digits ∙ k.spells.hex.value, texts)
 
+-- the first letter of the first word
+abbrev first_letter : List (List ℕ) → ℕ
+first_letter words = get_or (get_or words 0 []) 0 0
+
 -- the words of one command ask for no other
+pub asked_status : (words : List (List ℕ)) (command : Command) → IsStatus words → Asks words command → command ≡ commands.Status
+asked_status words commands.Status h k = refl
+asked_status words commands.Discover h k = absurd (let e = sym h ∙ k in cc)
+asked_status words commands.Eeprom h k = absurd (let letters : 115 ≡ 101 = ap first_letter (sym h ∙ k) in omega arith)
+asked_status words (commands.EepromSet code text) h k = absurd (let e = sym h ∙ k.is in cc)
+
 pub asked_discover : (words : List (List ℕ)) (command : Command) → IsDiscover words → Asks words command → command ≡ commands.Discover
+asked_discover words commands.Status h k = absurd (let e = sym h ∙ k in cc)
 asked_discover words commands.Discover h k = refl
 asked_discover words commands.Eeprom h k = absurd (let e = sym h ∙ k in cc)
 asked_discover words (commands.EepromSet code text) h k = absurd (let e = sym h ∙ k.is in cc)
 
 pub asked_eeprom : (words : List (List ℕ)) (command : Command) → IsEeprom words → Asks words command → command ≡ commands.Eeprom
+asked_eeprom words commands.Status h k = absurd (let letters : 101 ≡ 115 = ap first_letter (sym h ∙ k) in omega arith)
 asked_eeprom words commands.Discover h k = absurd (let e = sym h ∙ k in cc)
 asked_eeprom words commands.Eeprom h k = refl
 asked_eeprom words (commands.EepromSet code text) h k = absurd (let e = sym h ∙ k.is in cc)
 
 pub asked_set : (words : List (List ℕ)) (command : Command) (code : ℕ) (text : List ℕ) → IsEepromSet words code text → Asks words command → (held : Bor (List ℕ)) × (command ≡ commands.EepromSet code held) × (text ≡ held.now)
+asked_set words commands.Status code text h k = absurd (let e = sym h.is ∙ k in cc)
 asked_set words commands.Discover code text h k = absurd (let e = sym h.is ∙ k in cc)
 asked_set words commands.Eeprom code text h k = absurd (let e = sym h.is ∙ k in cc)
 asked_set words (commands.EepromSet other held) code text h k =

@@ -23,33 +23,24 @@ IsRefused bytes (eeproms.Ident fault) = (fields : List Field) × Tlv bytes field
 
 -- a status with which a call may end before it knows the board
 abbrev pub IsLoadRefusal : Option (List ℕ) → Status → Type 0
-IsLoadRefusal content (statuses.Done outcome) = ⊥
-IsLoadRefusal content statuses.Usage = ⊥
 IsLoadRefusal content (statuses.BadEeprom kind) = ForSome content (λ bytes. IsRefused bytes kind)
 IsLoadRefusal content statuses.EepromFault = Unit {0}
-IsLoadRefusal content statuses.MediaFault = ⊥
-IsLoadRefusal content statuses.SinkFault = ⊥
-IsLoadRefusal content (statuses.Refused kind) = ⊥
 IsLoadRefusal content statuses.Memory = Unit {0}
+IsLoadRefusal content status = ⊥
 
 -- a status where the EEPROM holds a board: the text was printed, a device's fault or want of memory
 abbrev pub IsAfterBoard : Status → Type 0
 IsAfterBoard (statuses.Done outcome) = outcome ≡ outcomes.Printed
-IsAfterBoard statuses.Usage = ⊥
-IsAfterBoard (statuses.BadEeprom kind) = ⊥
 IsAfterBoard statuses.EepromFault = Unit {0}
 IsAfterBoard statuses.MediaFault = Unit {0}
 IsAfterBoard statuses.SinkFault = Unit {0}
-IsAfterBoard (statuses.Refused kind) = ⊥
 IsAfterBoard statuses.Memory = Unit {0}
+IsAfterBoard status = ⊥
 
 -- a status where the EEPROM holds none: that refusal, a fault of the EEPROM or the console, or want of memory
 abbrev pub IsAfterRefusal : EepromKind → Status → Type 0
-IsAfterRefusal kind (statuses.Done outcome) = ⊥
-IsAfterRefusal kind statuses.Usage = ⊥
 IsAfterRefusal kind (statuses.BadEeprom other) = other ≡ kind
 IsAfterRefusal kind statuses.EepromFault = Unit {0}
-IsAfterRefusal kind statuses.MediaFault = ⊥
 IsAfterRefusal kind statuses.SinkFault = Unit {0}
-IsAfterRefusal kind (statuses.Refused other) = ⊥
 IsAfterRefusal kind statuses.Memory = Unit {0}
+IsAfterRefusal kind status = ⊥

@@ -8,13 +8,10 @@ use Rattle.onie_cli.specs.Refusal.{refusal_line_of}
 -- what the console took of a text before a call ends with the status
 abbrev pub ComesSoFar : List ℕ → Status → Option (List ℕ) → Option (List ℕ) → Type 0
 ComesSoFar text (statuses.Done outcome) old new = Appends old new text
-ComesSoFar text statuses.Usage old new = new ≡ old
-ComesSoFar text (statuses.BadEeprom kind) old new = new ≡ old
-ComesSoFar text statuses.EepromFault old new = new ≡ old
 ComesSoFar text statuses.MediaFault old new = AppendsFront old new text
 ComesSoFar text statuses.SinkFault old new = AppendsFront old new text
-ComesSoFar text (statuses.Refused kind) old new = new ≡ old
 ComesSoFar text statuses.Memory old new = AppendsFront old new text
+ComesSoFar text status old new = new ≡ old
 
 -- the console took what comes so far, and then the line of the status
 pub record EndsWith (text : List ℕ) (status : Status) (old new : Option (List ℕ)) : Type 0 where
@@ -31,11 +28,5 @@ pub record BreaksOff (text : List ℕ) (old new : Option (List ℕ)) : Type 0 wh
 
 -- what the console took of a call that ended with the status
 abbrev pub Prints : List ℕ → Status → Option (List ℕ) → Option (List ℕ) → Type 0
-Prints text (statuses.Done outcome) old new = EndsWith text (statuses.Done outcome) old new
-Prints text statuses.Usage old new = EndsWith text statuses.Usage old new
-Prints text (statuses.BadEeprom kind) old new = EndsWith text (statuses.BadEeprom kind) old new
-Prints text statuses.EepromFault old new = EndsWith text statuses.EepromFault old new
-Prints text statuses.MediaFault old new = EndsWith text statuses.MediaFault old new
 Prints text statuses.SinkFault old new = BreaksOff text old new
-Prints text (statuses.Refused kind) old new = EndsWith text (statuses.Refused kind) old new
-Prints text statuses.Memory old new = EndsWith text statuses.Memory old new
+Prints text status old new = EndsWith text status old new

@@ -8,7 +8,7 @@ use Rattle.tlvinfo.specs.Identity.{Board}
 use Rattle.url_waterfall.specs.declared.candidate.Candidate.{Candidate}
 use Rattle.url_waterfall.specs.declared.candidate.Place.{Place}
 use Rattle.url_waterfall.specs.declared.candidate.Place.TheVariants as places
-use Rattle.url_waterfall.specs.declared.mode.Mode.TheVariants as modes
+use Rattle.bd_mode.specs.declared.mode.Mode.TheVariants as modes
 use Rattle.url_waterfall.specs.Candidates.{local_files}
 use Rattle.url_waterfall.specs.Firsts.{firsts}
 use Rattle.onie_cli.specs.declared.local.Found.{Found}

@@ -12,13 +12,10 @@ use Rattle.onie_cli.specs.Fields.{RefusesUnreadable, fields_text}
 -- a status where the EEPROM holds fields: they were printed, a device's fault or want of memory
 abbrev pub IsAfterFields : Status → Type 0
 IsAfterFields (statuses.Done outcome) = outcome ≡ outcomes.Printed
-IsAfterFields statuses.Usage = ⊥
-IsAfterFields (statuses.BadEeprom kind) = ⊥
 IsAfterFields statuses.EepromFault = Unit {0}
-IsAfterFields statuses.MediaFault = ⊥
 IsAfterFields statuses.SinkFault = Unit {0}
-IsAfterFields (statuses.Refused kind) = ⊥
 IsAfterFields statuses.Memory = Unit {0}
+IsAfterFields status = ⊥
 
 -- the text for the fields that the bytes hold; any text where they hold none
 abbrev pub IsFieldsText : List ℕ → List ℕ → Type 0

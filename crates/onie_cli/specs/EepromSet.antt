@@ -33,36 +33,25 @@ pub record IsStorable (code : ℕ) (text : List ℕ) (fields changed : List Fiel
 
 -- a status with which a call may end that doesn't make the change
 abbrev pub IsChangeRefusal : ℕ → List ℕ → List Field → Status → Type 0
-IsChangeRefusal code text fields (statuses.Done outcome) = ⊥
-IsChangeRefusal code text fields statuses.Usage = ⊥
-IsChangeRefusal code text fields (statuses.BadEeprom kind) = ⊥
-IsChangeRefusal code text fields statuses.EepromFault = ⊥
-IsChangeRefusal code text fields statuses.MediaFault = ⊥
-IsChangeRefusal code text fields statuses.SinkFault = ⊥
 IsChangeRefusal code text fields (statuses.Refused kind) = IsRefusedChange code text fields kind
 IsChangeRefusal code text fields statuses.Memory = Unit {0}
+IsChangeRefusal code text fields status = ⊥
 
 -- a status where the change is refused: that refusal, a fault of the EEPROM or the console, or want of memory
 abbrev pub IsAfterRefusedChange : RefusedKind → Status → Type 0
-IsAfterRefusedChange kind (statuses.Done outcome) = ⊥
-IsAfterRefusedChange kind statuses.Usage = ⊥
-IsAfterRefusedChange kind (statuses.BadEeprom other) = ⊥
 IsAfterRefusedChange kind statuses.EepromFault = Unit {0}
-IsAfterRefusedChange kind statuses.MediaFault = ⊥
 IsAfterRefusedChange kind statuses.SinkFault = Unit {0}
 IsAfterRefusedChange kind (statuses.Refused other) = other ≡ kind
 IsAfterRefusedChange kind statuses.Memory = Unit {0}
+IsAfterRefusedChange kind status = ⊥
 
 -- a status where the change can be stored: it was, a fault of the EEPROM or the console, or want of memory
 abbrev pub IsAfterStorable : Status → Type 0
 IsAfterStorable (statuses.Done outcome) = outcome ≡ outcomes.Stored
-IsAfterStorable statuses.Usage = ⊥
-IsAfterStorable (statuses.BadEeprom other) = ⊥
 IsAfterStorable statuses.EepromFault = Unit {0}
-IsAfterStorable statuses.MediaFault = ⊥
 IsAfterStorable statuses.SinkFault = Unit {0}
-IsAfterStorable (statuses.Refused other) = ⊥
 IsAfterStorable statuses.Memory = Unit {0}
+IsAfterStorable status = ⊥
 
 -- the bytes hold fields whose change is refused
 pub record RefusesChange (code : ℕ) (text bytes : List ℕ) (kind : RefusedKind) : Type 0 where

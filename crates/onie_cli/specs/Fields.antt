@@ -35,14 +35,10 @@ IsUnreadable bytes (eeproms.Ident fault) = ⊥
 
 -- a status with which a call may end before it knows the fields
 abbrev pub IsFieldsRefusal : Option (List ℕ) → Status → Type 0
-IsFieldsRefusal content (statuses.Done outcome) = ⊥
-IsFieldsRefusal content statuses.Usage = ⊥
 IsFieldsRefusal content (statuses.BadEeprom kind) = ForSome content (λ bytes. IsUnreadable bytes kind)
 IsFieldsRefusal content statuses.EepromFault = Unit {0}
-IsFieldsRefusal content statuses.MediaFault = ⊥
-IsFieldsRefusal content statuses.SinkFault = ⊥
-IsFieldsRefusal content (statuses.Refused kind) = ⊥
 IsFieldsRefusal content statuses.Memory = Unit {0}
+IsFieldsRefusal content status = ⊥
 
 -- an EEPROM that holds no TlvInfo data, and it alone, is refused, by the first fault in it
 pub record RefusesUnreadable (eeprom : Option (List ℕ)) (status : Status) : Type 0 where

@@ -6,6 +6,7 @@ pub mod Local
 pub mod Line
 pub mod Console
 pub mod Discover
+pub mod ShowStatus
 pub mod Fields
 pub mod Eeprom
 pub mod EepromSet

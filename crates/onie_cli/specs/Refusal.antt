@@ -1,5 +1,7 @@
 -- The lines of refusals.
 use Rattle.std.specs.Prelude.{ℕ, List, [], codes}
+use Rattle.soundness.specs.declared.judging.SoundKind.{SoundKind}
+use Rattle.soundness.specs.declared.judging.SoundKind.TheVariants as sounds
 use Rattle.tlvinfo.specs.declared.fault.TlvKind.{TlvKind}
 use Rattle.tlvinfo.specs.declared.fault.TlvKind.TheVariants as kinds
 use Rattle.tlvinfo.specs.declared.fault.IdentFault.{IdentFault}
@@ -34,14 +36,25 @@ refused_line_of refusals.BadCode = codes "onie: refused: bad code\n"
 refused_line_of refusals.BadValue = codes "onie: refused: bad value\n"
 refused_line_of refusals.TooLong = codes "onie: refused: too long\n"
 
+-- the line for a board that is not sound
+abbrev pub unsound_line_of : SoundKind → List ℕ
+unsound_line_of sounds.NoTable = codes "onie: not sound: no table\n"
+unsound_line_of sounds.Entries = codes "onie: not sound: entries\n"
+unsound_line_of sounds.NoOnie = codes "onie: not sound: no onie\n"
+unsound_line_of sounds.TwoOnie = codes "onie: not sound: two onie\n"
+unsound_line_of sounds.NoImage = codes "onie: not sound: no image\n"
+unsound_line_of sounds.NoVars = codes "onie: not sound: no variables\n"
+
 -- the line of a status, empty where it has none
 abbrev pub refusal_line_of : Status → List ℕ
 refusal_line_of (statuses.Done outcome) = []
 refusal_line_of statuses.SinkFault = []
 refusal_line_of statuses.Memory = []
 refusal_line_of statuses.Usage = codes "onie: usage\n"
+refusal_line_of (statuses.NotSound kind) = unsound_line_of kind
 refusal_line_of (statuses.BadEeprom (eeproms.Tlv kind)) = tlv_line_of kind
 refusal_line_of (statuses.BadEeprom (eeproms.Ident fault)) = ident_line_of fault
+refusal_line_of statuses.PlantFault = codes "onie: plant fault\n"
 refusal_line_of statuses.EepromFault = codes "onie: eeprom fault\n"
 refusal_line_of statuses.MediaFault = codes "onie: media fault\n"
 refusal_line_of (statuses.Refused kind) = refused_line_of kind

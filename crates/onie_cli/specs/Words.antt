@@ -8,6 +8,10 @@ use Rattle.onie_cli.specs.declared.command.Command.TheVariants as commands
 abbrev pub IsDiscover : List (List ℕ) → Type 0
 IsDiscover words = words ≡ codes "discover" ∷ []
 
+-- `status` alone
+abbrev pub IsStatus : List (List ℕ) → Type 0
+IsStatus words = words ≡ codes "status" ∷ []
+
 -- `eeprom` alone
 abbrev pub IsEeprom : List (List ℕ) → Type 0
 IsEeprom words = words ≡ codes "eeprom" ∷ []
@@ -20,12 +24,14 @@ pub record IsEepromSet (words : List (List ℕ)) (code : ℕ) (text : List ℕ) 
 
 -- the words ask for the command
 abbrev pub Asks : List (List ℕ) → Command → Type 0
+Asks words commands.Status = IsStatus words
 Asks words commands.Discover = IsDiscover words
 Asks words commands.Eeprom = IsEeprom words
 Asks words (commands.EepromSet code text) = IsEepromSet words code text.now
 
 -- the words are no command
 pub record IsUsage (words : List (List ℕ)) : Type 0 where
+  pub no_status : ¬ IsStatus words
   pub no_discover : ¬ IsDiscover words
   pub no_eeprom : ¬ IsEeprom words
   pub no_eeprom_set : (code : ℕ) (text : List ℕ) → ¬ IsEepromSet words code text

@@ -44,6 +44,7 @@ pub(crate) fn set_field<E: Eeprom>(alloc: Global, eeprom: &mut E, code: u8, text
     ensures fault { result ≡ Status.EepromFault → Rose (E.faults eeprom.old) (E.faults eeprom.new) }
     ensures later { E.faults eeprom.old ≤ E.faults eeprom.new }
     ensures no_usage { result ≢ Status.Usage }
+    ensures no_plant { result ≢ Status.PlantFault }
     ensures no_media { result ≢ Status.MediaFault }
     ensures no_sink { result ≢ Status.SinkFault }
     ensures unreadable { RefusesUnreadable (E.content eeprom.old) result }

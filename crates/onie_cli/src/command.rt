@@ -7,6 +7,8 @@ ghost use Rattle.onie_cli.specs.Words.{Asks, IsUsage};
 /// A command, by the words after the program's name.
 #[derive(Clone, Copy)]
 pub(crate) enum Command<'a> {
+    /// `status`: print the table and what boots.
+    Status,
     /// `discover`: list the candidates on local media.
     Discover,
     /// `eeprom`: print the fields of the EEPROM.
@@ -34,6 +36,7 @@ pub(crate) fn read_words(words: &[String]) -> Option<Command<'_>>
 {
     match words {
         [word] => match word.as_str() {
+            "status" => Some(Command::Status),
             "discover" => Some(Command::Discover),
             "eeprom" => Some(Command::Eeprom),
             _ => None,

@@ -10,9 +10,10 @@ ghost use Rattle.onie_cli.specs.Discover.{line_over, lines_of, discover_text};
 use crate::line::candidate_line;
 use crate::local::find_local;
 use bd_dev::{DevFault, Media, Memory, Sink, write_all};
+use bd_mode::Mode;
 use std::alloc::Global;
 use tlvinfo::Identity;
-use url_waterfall::{Candidate, Mode, Place, candidates};
+use url_waterfall::{Candidate, Place, candidates};
 
 /// Why discovery ended early.
 #[derive(Clone, Copy, Debug, PartialEq, Eq)]

@@ -14,11 +14,15 @@ mod line;
 mod loading;
 mod local;
 mod refusal;
+mod showing;
 mod status;
 mod top;
 
+pub use soundness::SoundKind;
 pub use status::{EepromKind, Outcome, RefusedKind, Status};
 pub use top::onie;
 
+#[cfg(test)]
+mod status_tests;
 #[cfg(test)]
 mod tests;

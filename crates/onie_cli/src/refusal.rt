@@ -3,10 +3,11 @@
 ghost use Rattle.std.specs.Prelude.{◌≡◌, ◌≢◌, ◌≤◌, ◌⊎◌, [], IfErr};
 ghost use Rattle.bd_dev.specs.Faults.{Rose};
 ghost use Rattle.bd_dev.specs.Sink.{Appends, AppendsFront};
-ghost use Rattle.onie_cli.specs.Refusal.{ident_line_of, refusal_line_of, refused_line_of, tlv_line_of};
+ghost use Rattle.onie_cli.specs.Refusal.{ident_line_of, refusal_line_of, refused_line_of, tlv_line_of, unsound_line_of};
 
 use crate::status::{EepromKind, RefusedKind, Status};
 use bd_dev::{Sink, write_all};
+use soundness::SoundKind;
 use tlvinfo::{IdentFault, TlvKind};
 
 fn tlv_line(kind: TlvKind) -> &'static [u8]
@@ -35,6 +36,19 @@ fn ident_line(fault: IdentFault) -> &'static [u8]
     }
 }
 
+fn unsound_line(kind: SoundKind) -> &'static [u8]
+    ensures { result.now ≡ unsound_line_of kind }
+{
+    match kind {
+        SoundKind::NoTable => b"onie: not sound: no table\n",
+        SoundKind::Entries => b"onie: not sound: entries\n",
+        SoundKind::NoOnie => b"onie: not sound: no onie\n",
+        SoundKind::TwoOnie => b"onie: not sound: two onie\n",
+        SoundKind::NoImage => b"onie: not sound: no image\n",
+        SoundKind::NoVars => b"onie: not sound: no variables\n",
+    }
+}
+
 fn refused_line(kind: RefusedKind) -> &'static [u8]
     ensures { result.now ≡ refused_line_of kind }
 {
@@ -52,8 +66,10 @@ fn refusal_line(status: Status) -> &'static [u8]
     match status {
         Status::Done(_) | Status::SinkFault | Status::Memory => b"",
         Status::Usage => b"onie: usage\n",
+        Status::NotSound(kind) => unsound_line(kind),
         Status::BadEeprom(EepromKind::Tlv(kind)) => tlv_line(kind),
         Status::BadEeprom(EepromKind::Ident(fault)) => ident_line(fault),
+        Status::PlantFault => b"onie: plant fault\n",
         Status::EepromFault => b"onie: eeprom fault\n",
         Status::MediaFault => b"onie: media fault\n",
         Status::Refused(kind) => refused_line(kind),

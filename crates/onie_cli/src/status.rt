@@ -3,6 +3,7 @@
 ghost use Rattle.std.specs.Prelude.{◌≡◌};
 ghost use Rattle.onie_cli.specs.Status.{number_of};
 
+use soundness::SoundKind;
 use thiserror::Error;
 use tlvinfo::{IdentFault, TlvKind};
 
@@ -44,8 +45,12 @@ pub enum Status {
     Done(Outcome),
     /// The words are no command.
     Usage,
+    /// The board is not sound.
+    NotSound(SoundKind),
     /// The EEPROM holds no identity.
     BadEeprom(EepromKind),
+    /// The plant, the disk and the flash, counted a fault.
+    PlantFault,
     /// The EEPROM counted a fault.
     EepromFault,
     /// The media counted a fault.
@@ -66,7 +71,9 @@ impl Status {
         match self {
             Status::Done(_) => 0,
             Status::Usage => 2,
+            Status::NotSound(_) => 3,
             Status::BadEeprom(_) => 4,
+            Status::PlantFault => 6,
             Status::EepromFault => 7,
             Status::MediaFault => 8,
             Status::SinkFault => 10,

@@ -4,6 +4,7 @@ ghost use Rattle.std.specs.Prelude.{◌≤◌, length};
 
 use super::*;
 use bd_dev::{Bytes, DevFault, Eeprom, Failed, Media, MemEeprom, MemMedia, MemSink, Names};
+use bd_sim::SimPlant;
 use std::alloc::Global;
 use std::test::Fail;
 use tlvinfo::{IdentFault, TlvKind};
@@ -113,7 +114,9 @@ fn run_words(
 ) -> Result<(Status, MemSink), Fail> {
     let mut media = media(alloc, &[fails.media])?;
     let mut console = MemSink::new(alloc, &[fails.console])?;
-    let status = onie(alloc, words, eeprom, &mut media, &mut console);
+    // No command of these tests calls the plant, whose first call fails.
+    let mut plant = SimPlant::new(alloc, b"", b"", &[1])?;
+    let status = onie(alloc, words, &mut plant, eeprom, &mut media, &mut console);
     Ok((status, console))
 }
 
@@ -141,6 +144,9 @@ fn other_words_are_usage(rt: HostRuntime) -> Result<(), Fail> {
     for line in [
         "",
         "boot",
+        "status all",
+        "status ",
+        "Status",
         "boot rounds=0",
         "boot rounds=01",
         "boot boot",
@@ -274,10 +280,12 @@ impl Media for Shrinking {
 fn a_file_that_shrinks_is_short(rt: HostRuntime) -> Result<(), Fail> {
     let words = words(rt.alloc(), "discover")?;
     let mut eeprom = MemEeprom::new(rt.alloc(), BOARD, &[])?;
+    let mut plant = SimPlant::new(rt.alloc(), b"", b"", &[1])?;
     let mut console = MemSink::new(rt.alloc(), &[])?;
     let status = onie(
         rt.alloc(),
         &words,
+        &mut plant,
         &mut eeprom,
         &mut Shrinking,
         &mut console,
@@ -479,7 +487,9 @@ fn numbers_of_the_statuses(rt: HostRuntime) {
         (Status::Done(Outcome::Printed), 0),
         (Status::Done(Outcome::Stored), 0),
         (Status::Usage, 2),
+        (Status::NotSound(SoundKind::NoVars), 3),
         (Status::BadEeprom(EepromKind::Tlv(TlvKind::NoCrc)), 4),
+        (Status::PlantFault, 6),
         (Status::EepromFault, 7),
         (Status::MediaFault, 8),
         (Status::SinkFault, 10),

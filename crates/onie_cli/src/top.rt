@@ -5,6 +5,7 @@ ghost use Rattle.std.specs.Option.{ForSome};
 ghost use Rattle.bd_dev.specs.Faults.{Rose};
 ghost use Rattle.bd_dev.specs.Sink.{Appends};
 ghost use Rattle.bd_dev.specs.Volumes.{Volume};
+ghost use Rattle.plant_runs.specs.Runs.{Looks};
 ghost use Rattle.tlvinfo.specs.Identity.{Board};
 ghost use Rattle.tlvinfo.specs.TlvInfo.{Field, Tlv};
 ghost use Rattle.onie_cli.specs.Board.{HoldsBoard, IsRefused, IsAfterBoard, IsAfterRefusal};
@@ -14,8 +15,9 @@ ghost use Rattle.onie_cli.specs.Eeprom.{IsAfterFields, IsFieldsText, PrintsEepro
 ghost use Rattle.onie_cli.specs.EepromSet.{SetsField};
 ghost use Rattle.onie_cli.specs.Fields.{RefusesUnreadable};
 ghost use Rattle.onie_cli.specs.Refusal.{refusal_line_of};
+ghost use Rattle.onie_cli.specs.ShowStatus.{ShowsStatus};
 ghost use Rattle.onie_cli.specs.Status.{IsBeforeRun};
-ghost use Rattle.onie_cli.specs.Words.{IsDiscover, IsEeprom, IsEepromSet, IsUsage};
+ghost use Rattle.onie_cli.specs.Words.{IsDiscover, IsEeprom, IsEepromSet, IsStatus, IsUsage};
 
 use crate::board::load_identity;
 use crate::change::set_field;
@@ -24,8 +26,9 @@ use crate::discovery::{Stop, print_candidates};
 use crate::fields::print_fields;
 use crate::loading::load_info;
 use crate::refusal::report;
+use crate::showing::show_status;
 use crate::status::{EepromKind, Outcome, Status};
-use bd_dev::{Eeprom, Media, Sink};
+use bd_dev::{Eeprom, Media, Plant, Sink};
 use std::alloc::Global;
 
 fn discover<E: Eeprom, M: Media, C: Sink>(
@@ -35,6 +38,7 @@ fn discover<E: Eeprom, M: Media, C: Sink>(
     console: &mut C,
 ) -> Status
     ensures no_usage { result ≢ Status.Usage }
+    ensures no_plant { result ≢ Status.PlantFault }
     ensures kept { E.content eeprom.new ≡ E.content eeprom.old }
     ensures eeprom { result ≡ Status.EepromFault → Rose (E.faults eeprom.old) (E.faults eeprom.new) }
     ensures media { result ≡ Status.MediaFault → Rose (M.faults media.old) (M.faults media.new) }
@@ -68,6 +72,7 @@ fn print_eeprom<E: Eeprom, C: Sink>(alloc: Global, eeprom: &mut E, console: &mut
     ensures sink_later { C.faults console.old ≤ C.faults console.new }
     ensures kept { E.content eeprom.new ≡ E.content eeprom.old }
     ensures no_usage { result ≢ Status.Usage }
+    ensures no_plant { result ≢ Status.PlantFault }
     ensures no_media { result ≢ Status.MediaFault }
     ensures unreadable { RefusesUnreadable (E.content eeprom.old) result }
     ensures readable { ForSome (E.content eeprom.old) (λ bytes. (fields : List Field) → Tlv bytes fields → IsAfterFields result) }
@@ -89,21 +94,25 @@ fn print_eeprom<E: Eeprom, C: Sink>(alloc: Global, eeprom: &mut E, console: &mut
 
 /// Does what the words say over the devices, and answers how it went.
 ///
-/// The words are those after the program's name. `discover` alone lists the candidates on local media for installing
+/// The words are those after the program's name. `status` alone prints the board's partition table and what boots.
+/// `discover` alone lists the candidates on local media for installing
 /// on the board that the EEPROM identifies, a line each, with what each is found to be. `eeprom` alone prints the
 /// fields of the EEPROM, a line each, and `eeprom set CODE TEXT` sets the field of the code to the value that the text
 /// spells and stores the fields. Other words are no command. A refusal writes its line on the console.
-pub fn onie<E: Eeprom, M: Media, C: Sink>(
+pub fn onie<P: Plant, E: Eeprom, M: Media, C: Sink>(
     alloc: Global,
     words: &[String],
+    plant: &mut P,
     eeprom: &mut E,
     media: &mut M,
     console: &mut C,
 ) -> Status
     // A fault is answered only where that device counted one, and no count falls.
+    ensures plant_fault { result ≡ Status.PlantFault → Rose (P.view plant.old).faults (P.view plant.new).faults }
     ensures eeprom_fault { result ≡ Status.EepromFault → Rose (E.faults eeprom.old) (E.faults eeprom.new) }
     ensures media_fault { result ≡ Status.MediaFault → Rose (M.faults media.old) (M.faults media.new) }
     ensures sink_fault { result ≡ Status.SinkFault → Rose (C.faults console.old) (C.faults console.new) }
+    ensures plant_later { (P.view plant.old).faults ≤ (P.view plant.new).faults }
     ensures eeprom_later { E.faults eeprom.old ≤ E.faults eeprom.new }
     ensures media_later { M.faults media.old ≤ M.faults media.new }
     ensures sink_later { C.faults console.old ≤ C.faults console.new }
@@ -118,17 +127,24 @@ pub fn onie<E: Eeprom, M: Media, C: Sink>(
     // Without a fault of its own, the EEPROM is as it was, but where the call stored in it.
     ensures kept { result ≢ Status.Done Outcome.Stored → ¬ Rose (E.faults eeprom.old) (E.faults eeprom.new) → E.content eeprom.new ≡ E.content eeprom.old }
 
-    // No command but `eeprom set` stores in the EEPROM, and none but `discover` calls the media.
+    // No command writes the plant or syncs it, at any moment, and none but `status` calls it.
+    ensures looks { Looks (P.view plant.old) (P.view plant.new) }
+    ensures plant_unused { ¬ IsStatus (map string_bytes words.now) → plant.new ≡ plant.old }
+
+    // No command but `eeprom set` stores in the EEPROM, `status` never calls it, and none but `discover` calls the media.
+    ensures eeprom_unused { IsStatus (map string_bytes words.now) → eeprom.new ≡ eeprom.old }
     ensures kept_by_others { ((code : ℕ) (text : List ℕ) → ¬ IsEepromSet (map string_bytes words.now) code text) → E.content eeprom.new ≡ E.content eeprom.old }
     ensures media_unused { ¬ IsDiscover (map string_bytes words.now) → media.new ≡ media.old }
 
     // What each command does.
+    ensures status { IsStatus (map string_bytes words.now) → ShowsStatus (P.view plant.old) result (C.taken console.old) (C.taken console.new) }
     ensures discover { IsDiscover (map string_bytes words.now) → Discovers (E.content eeprom.old) (M.content media.old) result (C.taken console.old) (C.taken console.new) }
     ensures eeprom { IsEeprom (map string_bytes words.now) → PrintsEeprom (E.content eeprom.old) result (C.taken console.old) (C.taken console.new) }
     ensures eeprom_set { (code : ℕ) (text : List ℕ) → IsEepromSet (map string_bytes words.now) code text
         → SetsField code text (E.content eeprom.old) (E.content eeprom.new) result (C.taken console.old) (C.taken console.new) }
 {
     let status = match read_words(words) {
+        Some(Command::Status) => show_status(plant, console),
         Some(Command::Discover) => discover(alloc, eeprom, media, console),
         Some(Command::Eeprom) => print_eeprom(alloc, eeprom, console),
         Some(Command::EepromSet { code, text }) => set_field(alloc, eeprom, code, text),

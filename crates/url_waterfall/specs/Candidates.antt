@@ -3,7 +3,7 @@ use Rattle.std.specs.Prelude.{ℕ, Bool, not, List, ◌++◌, map, filter, None,
 use Rattle.std.specs.List.{flat_map}
 use Rattle.std.specs.Str.{bytes_eq}
 use Rattle.tlvinfo.specs.Identity.{Board}
-use Rattle.url_waterfall.specs.declared.mode.Mode.{Mode}
+use Rattle.bd_mode.specs.declared.mode.Mode.{Mode}
 use Rattle.url_waterfall.specs.declared.candidate.Place.TheVariants as places
 use Rattle.url_waterfall.specs.declared.candidate.Candidate.{Candidate}
 use Rattle.url_waterfall.specs.Names.{installer_names}

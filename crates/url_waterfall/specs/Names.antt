@@ -4,8 +4,8 @@ use Rattle.std.specs.List.{flat_map}
 use Rattle.std.specs.Option.{option_to_list}
 use Rattle.tlvinfo.specs.Platform.{Parts}
 use Rattle.tlvinfo.specs.Identity.{Board}
-use Rattle.url_waterfall.specs.declared.mode.Mode.{Mode}
-use Rattle.url_waterfall.specs.declared.mode.Mode.TheVariants as modes
+use Rattle.bd_mode.specs.declared.mode.Mode.{Mode}
+use Rattle.bd_mode.specs.declared.mode.Mode.TheVariants as modes
 
 -- what each name begins with
 abbrev pub base_of : Mode → List ℕ

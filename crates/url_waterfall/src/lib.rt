@@ -7,12 +7,10 @@
 
 mod candidate;
 mod local;
-mod mode;
 mod naming;
 #[cfg(test)]
 mod tests;
 
 pub use candidate::{Candidate, Place};
 pub use local::candidates;
-pub use mode::Mode;
 pub use naming::names;

@@ -6,9 +6,9 @@ ghost use Rattle.url_waterfall.specs.Candidates.{local_file, files_named, local_
 ghost use Rattle.url_waterfall.specs.Firsts.{firsts, with_new, KeepsFirsts};
 
 use crate::candidate::{Candidate, push_new};
-use crate::mode::Mode;
 use crate::naming::names;
 use bd_dev::{Bytes, Memory, Names};
+use bd_mode::Mode;
 use std::alloc::Global;
 use tlvinfo::Identity;
 

@@ -5,8 +5,8 @@ ghost use Rattle.std.specs.Option.{option_copied};
 ghost use Rattle.tlvinfo.specs.IdentityView.{board_of};
 ghost use Rattle.url_waterfall.specs.Names.{base_of, both_names, installer_names};
 
-use crate::mode::Mode;
 use bd_dev::{Bytes, Memory, Names};
+use bd_mode::Mode;
 use std::alloc::Global;
 use tlvinfo::Identity;
 

@@ -2,6 +2,7 @@
 
 use super::*;
 use bd_dev::{Bytes, Memory, Names};
+use bd_mode::Mode;
 use std::alloc::Global;
 use std::test::Fail;
 use tlvinfo::{Identity, decode, identity};

@@ -2,8 +2,7 @@ use Rattle.std.proofs.Common.{◌∙◌, arith}
 use Rattle.std.specs.Option.{ForSome}
 use Rattle.bd_dev.specs.Sink.{AppendsFront}
 use Rattle.onie_cli.specs.Discover.{line_over, lines_of}
-use Rattle.onie_cli.proofs.Lines.{one_more_line, front_of_a_line}
-use Rattle.onie_cli.proofs.Outcomes.{OnErr-always}
+use Rattle.bd_dev.proofs.Lines.{OnErr-always, one_more_line, front_of_a_line}
 use Rattle.onie_cli.proofs.discovery.print_all.Goals as goal
 
 pub returns-in_err-print_one-clause-front : goal.returns-in_err-print_one-clause-front

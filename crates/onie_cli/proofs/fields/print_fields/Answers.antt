@@ -4,8 +4,7 @@ use Rattle.std.proofs.lemmas.Option.{slice_get_within, get_or_from_slice_get}
 use Rattle.bd_dev.specs.Sink.{AppendsFront}
 use Rattle.tlvinfo.specs.TlvInfo.{Field}
 use Rattle.onie_cli.specs.Fields.{field_line, fields_text}
-use Rattle.onie_cli.proofs.Lines.{front_of_a_line, one_more_line}
-use Rattle.onie_cli.proofs.Outcomes.{OnErr-always}
+use Rattle.bd_dev.proofs.Lines.{OnErr-always, front_of_a_line, one_more_line}
 use Rattle.onie_cli.proofs.fields.print_fields.Goals as goal
 
 pub returns-in_err-print_field-clause-front : goal.returns-in_err-print_field-clause-front

@@ -1,4 +1,4 @@
-use Rattle.onie_cli.proofs.Taken.{Appends-front}
+use Rattle.bd_dev.proofs.Lines.{Appends-front}
 use Rattle.onie_cli.proofs.refusal.report.Goals as goal
 
 pub returns-in-Ok-clause-front : goal.returns-in-Ok-clause-front

@@ -1,18 +1,38 @@
 use Rattle.std.proofs.Common.{◌≡◌, ◌⊎◌, ℕ, List, Bor, [], refl, sym, ap, subst, ◌∙◌}
+use Rattle.plant_runs.proofs.Joins.{looks_now}
 use Rattle.onie_cli.specs.declared.status.Outcome.TheVariants as outcomes
 use Rattle.onie_cli.specs.declared.status.Status.TheVariants as statuses
 use Rattle.onie_cli.specs.Board.{IsAfterBoard, IsAfterRefusal}
 use Rattle.onie_cli.specs.Console.{ComesSoFar}
 use Rattle.onie_cli.specs.Discover.{PrintsBoard}
 use Rattle.onie_cli.specs.Eeprom.{IsAfterFields, PrintsFields}
+use Rattle.onie_cli.specs.ShowStatus.{IsAfterSound, IsAfterUnsound, IsStatusAnswer, PrintsHeld}
 use Rattle.onie_cli.specs.EepromSet.{IsAfterRefusedChange, IsAfterStorable, StoresChange}
 use Rattle.onie_cli.proofs.Printing.{comes-nothing, done-same, prints, reported, reported-back, unreadable-reported}
-use Rattle.onie_cli.proofs.Words.{asked_discover, asked_eeprom, asked_set}
+use Rattle.onie_cli.proofs.Words.{asked_discover, asked_eeprom, asked_set, asked_status}
 use Rattle.onie_cli.proofs.top.onie.Goals as goal
-use Rattle.onie_cli.proofs.top.onie.Goals.{in-Some-Discover, in-Some-Eeprom, in-Some-EepromSet, in-None}
+use Rattle.onie_cli.proofs.top.onie.Goals.{in-Some-Status, in-Some-Discover, in-Some-Eeprom, in-Some-EepromSet, in-None}
+
+pub returns-clause-usage : goal.returns-clause-usage
+returns-clause-usage g c = λ e. elim c.match-read_words.branch [
+  | in-Some-Status w ↦
+      let answer : (c.report.result ≡ w.show_status-status.result) ⊎ (c.report.result ≡ statuses.SinkFault) = rw (← w.status-is) c.report.ensures.answer in
+      absurd (w.show_status-status.ensures.no_usage (reported-back w.show_status-status.result c.report.result statuses.Usage (λ f. cc) answer e))
+  | in-Some-Discover w ↦
+      let answer : (c.report.result ≡ w.discover-status.result) ⊎ (c.report.result ≡ statuses.SinkFault) = rw (← w.status-is) c.report.ensures.answer in
+      absurd (w.discover-status.ensures.no_usage (reported-back w.discover-status.result c.report.result statuses.Usage (λ f. cc) answer e))
+  | in-Some-Eeprom w ↦
+      let answer : (c.report.result ≡ w.print_eeprom-status.result) ⊎ (c.report.result ≡ statuses.SinkFault) = rw (← w.status-is) c.report.ensures.answer in
+      absurd (w.print_eeprom-status.ensures.no_usage (reported-back w.print_eeprom-status.result c.report.result statuses.Usage (λ f. cc) answer e))
+  | in-Some-EepromSet w ↦
+      let answer : (c.report.result ≡ w.set_field-status.result) ⊎ (c.report.result ≡ statuses.SinkFault) = rw (← w.status-is) c.report.ensures.answer in
+      absurd (w.set_field-status.ensures.no_usage (reported-back w.set_field-status.result c.report.result statuses.Usage (λ f. cc) answer e))
+  | in-None w ↦ w.in-None.ensures
+]
 
 pub returns-clause-kept : goal.returns-clause-kept
 returns-clause-kept g c = λ no_store no_fault. elim c.match-read_words.branch [
+  | in-Some-Status w ↦ rw w.eeprom-is refl
   | in-Some-Discover w ↦ rw w.eeprom-is w.discover-status.ensures.kept
   | in-Some-Eeprom w ↦ rw w.eeprom-is w.print_eeprom-status.ensures.kept
   | in-Some-EepromSet w ↦ rw w.eeprom-is (w.set_field-status.ensures.kept
@@ -23,6 +43,7 @@ returns-clause-kept g c = λ no_store no_fault. elim c.match-read_words.branch [
 
 pub returns-clause-kept_by_others : goal.returns-clause-kept_by_others
 returns-clause-kept_by_others g c = λ no_set. elim c.match-read_words.branch [
+  | in-Some-Status w ↦ rw w.eeprom-is refl
   | in-Some-Discover w ↦ rw w.eeprom-is w.discover-status.ensures.kept
   | in-Some-Eeprom w ↦ rw w.eeprom-is w.print_eeprom-status.ensures.kept
   | in-Some-EepromSet w ↦ absurd (no_set w.in-Some-EepromSet.code w.in-Some-EepromSet.text.now (rw w.in-Some-EepromSet.field-0-is at w.in-Some-EepromSet.ensures))
@@ -31,14 +52,69 @@ returns-clause-kept_by_others g c = λ no_set. elim c.match-read_words.branch [
 
 pub returns-clause-media_unused : goal.returns-clause-media_unused
 returns-clause-media_unused g c = λ no_discover. elim c.match-read_words.branch [
+  | in-Some-Status w ↦ w.media-is
   | in-Some-Discover w ↦ absurd (no_discover (rw w.in-Some-Discover.field-0-is at w.in-Some-Discover.ensures))
   | in-Some-Eeprom w ↦ w.media-is
   | in-Some-EepromSet w ↦ w.media-is
   | in-None w ↦ w.media-is
 ]
 
+pub returns-clause-plant_unused : goal.returns-clause-plant_unused
+returns-clause-plant_unused g c = λ no_status. elim c.match-read_words.branch [
+  | in-Some-Status w ↦ absurd (no_status (rw w.in-Some-Status.field-0-is at w.in-Some-Status.ensures))
+  | in-Some-Discover w ↦ w.plant-is
+  | in-Some-Eeprom w ↦ w.plant-is
+  | in-Some-EepromSet w ↦ w.plant-is
+  | in-None w ↦ w.plant-is
+]
+
+pub returns-clause-eeprom_unused : goal.returns-clause-eeprom_unused
+returns-clause-eeprom_unused g c = λ words. elim c.match-read_words.branch [
+  | in-Some-Status w ↦ w.eeprom-is
+  | in-Some-Discover w ↦ absurd (let e = sym w.in-Some-Discover.field-0-is ∙ asked_status _ w.in-Some-Discover.field-0 words w.in-Some-Discover.ensures in cc)
+  | in-Some-Eeprom w ↦ absurd (let e = sym w.in-Some-Eeprom.field-0-is ∙ asked_status _ w.in-Some-Eeprom.field-0 words w.in-Some-Eeprom.ensures in cc)
+  | in-Some-EepromSet w ↦ absurd (let e = sym w.in-Some-EepromSet.field-0-is ∙ asked_status _ w.in-Some-EepromSet.field-0 words w.in-Some-EepromSet.ensures in cc)
+  | in-None w ↦ absurd (w.in-None.ensures.no_status words)
+]
+
+pub returns-clause-looks : goal.returns-clause-looks
+returns-clause-looks g c =
+    let here = looks_now (g.P.Plant.view c.args.plant.now) (g.met.P.Plant.honest c.args.plant.now) in
+    elim c.match-read_words.branch [
+      | in-Some-Status w ↦ rw w.plant-is w.show_status-status.ensures.looks
+      | in-Some-Discover w ↦ rw w.plant-is here
+      | in-Some-Eeprom w ↦ rw w.plant-is here
+      | in-Some-EepromSet w ↦ rw w.plant-is here
+      | in-None w ↦ rw w.plant-is here
+    ]
+
+pub returns-clause-status : goal.returns-clause-status
+returns-clause-status g c = λ words. elim c.match-read_words.branch [
+  | in-Some-Status w ↦
+      let d = w.show_status-status.ensures in
+      let answer : (c.report.result ≡ w.show_status-status.result) ⊎ (c.report.result ≡ statuses.SinkFault) = rw (← w.status-is) c.report.ensures.answer in
+      record {
+        answer = reported IsStatusAnswer w.show_status-status.result c.report.result d.answer tt answer;
+        unsound = λ kind t e. d.unsound kind t (reported-back w.show_status-status.result c.report.result (statuses.NotSound kind) (λ f. cc) answer e);
+        refused = λ kind t h. reported (IsAfterUnsound kind) w.show_status-status.result c.report.result (d.refused kind t h) tt answer;
+        sound = λ t h. reported IsAfterSound w.show_status-status.result c.report.result (d.sound t h) tt answer;
+        printed = λ t e.
+            let done = reported-back w.show_status-status.result c.report.result (statuses.Done outcomes.Printed) (λ f. cc) answer e in
+            let same = done-same outcomes.Printed c.match-read_words.status c.report.result _ _ (w.status-is ∙ done) e c.report.ensures.written in
+            subst (PrintsHeld (g.P.Plant.view c.args.plant.now) (g.C.Sink.taken c.args.console.now)) (sym (same ∙ ap g.C.Sink.taken w.console-is)) (d.printed t done);
+        console = λ text t is.
+            let so_far : ComesSoFar text c.match-read_words.status (g.C.Sink.taken c.args.console.now) (g.C.Sink.taken c.match-read_words.console) = rw (w.status-is, w.console-is) (d.console text t is) in
+            prints text _ _ _ _ _ so_far c.report.ensures.answer c.report.ensures.written c.report.ensures.front;
+      }
+  | in-Some-Discover w ↦ absurd (let e = sym w.in-Some-Discover.field-0-is ∙ asked_status _ w.in-Some-Discover.field-0 words w.in-Some-Discover.ensures in cc)
+  | in-Some-Eeprom w ↦ absurd (let e = sym w.in-Some-Eeprom.field-0-is ∙ asked_status _ w.in-Some-Eeprom.field-0 words w.in-Some-Eeprom.ensures in cc)
+  | in-Some-EepromSet w ↦ absurd (let e = sym w.in-Some-EepromSet.field-0-is ∙ asked_status _ w.in-Some-EepromSet.field-0 words w.in-Some-EepromSet.ensures in cc)
+  | in-None w ↦ absurd (w.in-None.ensures.no_status words)
+]
+
 pub returns-clause-discover : goal.returns-clause-discover
 returns-clause-discover g c = λ words. elim c.match-read_words.branch [
+  | in-Some-Status w ↦ absurd (let e = sym w.in-Some-Status.field-0-is ∙ asked_discover _ w.in-Some-Status.field-0 words w.in-Some-Status.ensures in cc)
   | in-Some-Discover w ↦
       let d = w.discover-status.ensures in
       let answer : (c.report.result ≡ w.discover-status.result) ⊎ (c.report.result ≡ statuses.SinkFault) = rw (← w.status-is) c.report.ensures.answer in
@@ -61,6 +137,7 @@ returns-clause-discover g c = λ words. elim c.match-read_words.branch [
 
 pub returns-clause-eeprom : goal.returns-clause-eeprom
 returns-clause-eeprom g c = λ words. elim c.match-read_words.branch [
+  | in-Some-Status w ↦ absurd (let e = sym w.in-Some-Status.field-0-is ∙ asked_eeprom _ w.in-Some-Status.field-0 words w.in-Some-Status.ensures in cc)
   | in-Some-Discover w ↦ absurd (let e = sym w.in-Some-Discover.field-0-is ∙ asked_eeprom _ w.in-Some-Discover.field-0 words w.in-Some-Discover.ensures in cc)
   | in-Some-Eeprom w ↦
       let d = w.print_eeprom-status.ensures in
@@ -82,6 +159,7 @@ returns-clause-eeprom g c = λ words. elim c.match-read_words.branch [
 
 pub returns-clause-eeprom_set : goal.returns-clause-eeprom_set
 returns-clause-eeprom_set g c = λ code text words. elim c.match-read_words.branch [
+  | in-Some-Status w ↦ absurd (let e = sym w.in-Some-Status.field-0-is ∙ (asked_set _ w.in-Some-Status.field-0 code text words w.in-Some-Status.ensures).1 in cc)
   | in-Some-Discover w ↦ absurd (let e = sym w.in-Some-Discover.field-0-is ∙ (asked_set _ w.in-Some-Discover.field-0 code text words w.in-Some-Discover.ensures).1 in cc)
   | in-Some-Eeprom w ↦ absurd (let e = sym w.in-Some-Eeprom.field-0-is ∙ (asked_set _ w.in-Some-Eeprom.field-0 code text words w.in-Some-Eeprom.ensures).1 in cc)
   | in-Some-EepromSet w ↦

@@ -1,0 +1,4 @@
+mod Standing
+mod Firsts
+mod Reading
+mod Playing

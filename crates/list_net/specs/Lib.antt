@@ -1,0 +1,5 @@
+pub mod Rows
+pub mod Cursors
+pub mod Earliest
+pub mod Network
+pub mod Flows
