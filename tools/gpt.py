@@ -8,11 +8,13 @@ entries and header in the backup copy. docs/formats/gpt.md is the whole referenc
 
 from __future__ import annotations
 
+import io
 import struct
 import uuid
 import zlib
 from dataclasses import dataclass
 from enum import Enum
+from typing import BinaryIO
 
 SECTOR_SIZE = 512
 SIGNATURE = b"EFI PART"
@@ -222,29 +224,49 @@ def cylinder_address(lba: int) -> bytes:
     return bytes([head, sector + 1 | cylinder >> 8 << 6, cylinder & 0xFF])
 
 
+def copies(table: Table, sectors: int) -> dict[int, bytes]:
+    """Both copies for a disk of so many sectors, by the LBA at which each begins."""
+    last_lba = sectors - 1
+    return {copy_start(which, last_lba): encode_copy(table, which, last_lba) for which in Which}
+
+
 def disk_image(table: Table, sectors: int) -> bytes:
     """A disk of so many sectors with a protective MBR and both copies; all else is zeros."""
-    last_lba = sectors - 1
-    copies = {which: encode_copy(table, which, last_lba) for which in Which}
+    pieces = {0: protective_sector(sectors), **copies(table, sectors)}
     image = bytearray(sectors * SECTOR_SIZE)
-    image[:SECTOR_SIZE] = protective_sector(sectors)
-    for which, copy in copies.items():
-        start = copy_start(which, last_lba) * SECTOR_SIZE
-        image[start : start + COPY_SIZE] = copy
+    for lba, piece in pieces.items():
+        start = lba * SECTOR_SIZE
+        image[start : start + len(piece)] = piece
     return bytes(image)
 
 
-def read_disk(image: bytes) -> tuple[Table, Which] | None:
-    """The table that counts, and its copy: the primary if readable, else the backup if readable.
+def sectors_of(disk: BinaryIO) -> int:
+    """The number of whole sectors of an image's file."""
+    return disk.seek(0, io.SEEK_END) // SECTOR_SIZE
+
+
+def tables_of(disk: BinaryIO) -> dict[Which, Table | None]:
+    """The table of each copy in an image's file, or None where that copy isn't readable.
 
     Sector 0 isn't looked at, nor are bytes after the last whole sector.
     """
-    sectors = len(image) // SECTOR_SIZE
-    if sectors < LEAST_SECTORS:
-        return None
-    for which in (Which.PRIMARY, Which.BACKUP):
-        start = copy_start(which, sectors - 1) * SECTOR_SIZE
-        table = decode_copy(image[start : start + COPY_SIZE], which, sectors - 1)
+    sectors = sectors_of(disk)
+    tables: dict[Which, Table | None] = {Which.PRIMARY: None, Which.BACKUP: None}
+    if sectors >= LEAST_SECTORS:
+        for which in tables:
+            disk.seek(copy_start(which, sectors - 1) * SECTOR_SIZE)
+            tables[which] = decode_copy(disk.read(COPY_SIZE), which, sectors - 1)
+    return tables
+
+
+def counting_table(disk: BinaryIO) -> tuple[Table, Which] | None:
+    """The table that counts, and its copy: the primary if readable, else the backup if readable."""
+    for which, table in tables_of(disk).items():
         if table is not None:
             return table, which
     return None
+
+
+def read_disk(image: bytes) -> tuple[Table, Which] | None:
+    """The table that counts, and its copy, of an image's bytes."""
+    return counting_table(io.BytesIO(image))

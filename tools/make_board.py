@@ -1,17 +1,30 @@
-"""Makes a board folder for `onie`: an identity EEPROM `eeprom.bin`, and `media/` with volumes."""
+"""Makes a board folder for `onie`: `eeprom.bin`, `media/` with volumes, `disk.img`, `flash.img`."""
 
 from __future__ import annotations
 
 import argparse
 import os
-import re
 import sys
-from collections.abc import Callable
+from collections.abc import Callable, Iterable
 from dataclasses import dataclass
+from operator import attrgetter, itemgetter
 from pathlib import Path
-from typing import NoReturn
+from typing import NoReturn, TypeVar
 
-from tlvinfo import CHECKSUM_CODE, CODES, EncodeError, Field, Kind, encode
+import flash
+import gpt
+import tlvinfo
+from board_options import (
+    DISK,
+    BoardError,
+    MediaFile,
+    entry_of,
+    field_of,
+    file_of,
+    sectors_of,
+    variable_of,
+)
+from onie_image import encode_image
 
 EXAMPLES = """\
 CODE is two hexadecimal digits, with or without 0x. TEXT is spelled by the kind of the code:
@@ -27,168 +40,180 @@ Fields are written in the order given. Without --field the EEPROM has the platfo
 x86_64-kvm_x86_64-r0 and the MAC address 00:11:22:33:44:55. Without --file there are
 usb0/onie-installer of 5 bytes and usb1/onie-installer-x86_64-kvm_x86_64-r0 of 9 bytes.
 
+The disk has the GUID 01234567-89ab-cdef-0123-456789abcdef and both copies of its table. What
+holds no table and no image is zeros, sector 0 too: there is no protective MBR.
+KIND is onie, linux or the GUID of a type. GUID may be empty: it is then
+01234567-89ab-cdef-0123-4567 and the entry's number in 8 hexadecimal digits. NAME may be
+empty or have commas. FIRST and LAST may be any sectors, so that a wrong table can be made.
+Each entry of the kind onie holds ONIE's image of one byte, where it has two sectors and they
+are usable ones. Without --entry there is ONIE's partition alone, entry 1, the sectors 2048 to
+18431, with the name ONIE-BOOT.
+
+A NAME of a variable is 1 to 64 letters, digits or _, and a VALUE has the characters from space
+to ~. Variables are written in the order given, as number 1 into slot 0. Without --variable
+there is onie_boot_reason=install.
+
 examples:
   make_board.py board
   make_board.py board --field 28=arm-acme_a1-r2 --field 24=02:00:00:00:00:01 --field 0x2A=4
   make_board.py board --file usb0/onie-installer.bin=hello --file usb1/onie-installer=@33554433
   make_board.py board --defaults --field 21=Switch --file usb2/onie-installer=more
+  make_board.py board --variable onie_boot_reason=rescue
+  make_board.py board --defaults --entry 2=linux,,18432,51199,NOS \\
+      --variable onie_boot_reason= \\
+      --variable "nos_bootcmd=boot 01234567-89ab-cdef-0123-456700000002"
+  make_board.py board --sectors 4096 --entry 1=onie,,34,99,ONIE-BOOT
+  make_board.py board --no-disk --no-flash
 """
 
-
-class BoardError(Exception):
-    """What is wrong with the board that was asked for, in one line."""
-
-
-@dataclass(frozen=True)
-class Spelling:
-    """How a value is written on the command line: its form, and the bytes that it stands for."""
-
-    form: str
-    pattern: str
-    value: Callable[[str], bytes]
-
-
-def decimal(size: int) -> Spelling:
-    """The spelling of a big-endian number of `size` bytes."""
-    return Spelling(
-        f"a decimal of 0 to {256**size - 1} without leading zeros",
-        "0|[1-9][0-9]{0,4}",
-        lambda text: int(text).to_bytes(size, "big"),
-    )
-
-
-SPELLINGS: dict[Kind, Spelling] = {
-    Kind.TEXT: Spelling("text of the characters from space to ~", "[ -~]*", str.encode),
-    Kind.MAC: Spelling(
-        "a MAC address as 00:11:22:33:44:55",
-        "[0-9A-Fa-f]{2}(:[0-9A-Fa-f]{2}){5}",
-        lambda text: bytes.fromhex(text.replace(":", "")),
-    ),
-    Kind.DATE: Spelling(
-        "a date as MM/DD/YYYY HH:MM:SS",
-        "[0-9]{2}/[0-9]{2}/[0-9]{4} [0-9]{2}:[0-9]{2}:[0-9]{2}",
-        str.encode,
-    ),
-    Kind.BYTE: decimal(1),
-    Kind.WORD: decimal(2),
-    Kind.LETTERS: Spelling("two letters", "[A-Za-z]{2}", str.encode),
-    Kind.RAW: Spelling("hexadecimal digits in pairs", "([0-9A-Fa-f]{2})*", bytes.fromhex),
-}
-
-
-def value_of(code: int, text: str) -> bytes:
-    """The value that `text` spells for `code`."""
-    spelling = SPELLINGS[CODES[code].kind if code in CODES else Kind.RAW]
-    if re.fullmatch(spelling.pattern, text):
-        try:
-            return spelling.value(text)
-        except OverflowError:
-            pass
-    raise BoardError(f"field {code:02X}: {text!r} is not {spelling.form}")
-
-
-def field_of(option: str) -> Field:
-    """The field that an option CODE=TEXT asks for."""
-    digits, equals, text = option.partition("=")
-    if not equals:
-        raise BoardError(f"--field {option!r} is not CODE=TEXT")
-    if not re.fullmatch("(0x)?[0-9A-Fa-f]{2}", digits):
-        raise BoardError(f"--field {option!r}: a code is two hexadecimal digits, as 28 or 0x28")
-    code = int(digits, 16)
-    if code == CHECKSUM_CODE:
-        raise BoardError(f"field {code:02X} is the checksum, which is written by itself")
-    return code, value_of(code, text)
-
-
-@dataclass(frozen=True)
-class MediaFile:
-    """A file of a volume: its first bytes, and its size. What follows the first bytes is zeros."""
-
-    volume: str
-    name: str
-    start: bytes
-    size: int
-
-    @property
-    def path(self) -> str:
-        """Where the file stands below `media/`."""
-        return f"{self.volume}/{self.name}"
-
-
-def file_of(option: str) -> MediaFile:
-    """The file that an option VOLUME/NAME=CONTENT or VOLUME/NAME=@SIZE asks for."""
-    path, equals, content = option.partition("=")
-    volume, slash, name = path.partition("/")
-    if not equals or not slash:
-        raise BoardError(f"--file {option!r} is not VOLUME/NAME=CONTENT or VOLUME/NAME=@SIZE")
-    if "/" in name or {volume, name} & {"", ".", ".."}:
-        raise BoardError(f"--file {option!r}: {path!r} is not a volume, one slash and a file name")
-    if not content.startswith("@"):
-        start = os.fsencode(content)
-        return MediaFile(volume, name, start, len(start))
-    if not re.fullmatch("@[0-9]{1,18}", content):
-        raise BoardError(f"--file {option!r}: a size is @ and 1 to 18 decimal digits")
-    return MediaFile(volume, name, b"", int(content[1:]))
-
+Item = TypeVar("Item")
 
 DEFAULT_FIELDS = [field_of("28=x86_64-kvm_x86_64-r0"), field_of("24=00:11:22:33:44:55")]
 DEFAULT_FILES = [
     file_of("usb0/onie-installer=hello"),
     file_of("usb1/onie-installer-x86_64-kvm_x86_64-r0=installer"),
 ]
+DEFAULT_ENTRIES = [entry_of("1=onie,01234567-89ab-cdef-0123-4567000000ff,2048,18431,ONIE-BOOT")]
+DEFAULT_VARIABLES = [variable_of("onie_boot_reason=install")]
+DEFAULT_SECTORS = "131072"
+IMAGE = encode_image(b"\x01")
+
+
+@dataclass(frozen=True)
+class SparseFile:
+    """The pieces of a file by the offsets at which they begin, and its size; else zeros."""
+
+    pieces: dict[int, bytes]
+    size: int
+
+    def write(self, path: Path) -> None:
+        """Writes a new file. What is zeros takes no room where the file system allows it."""
+        with path.open("xb") as file:
+            for offset, piece in self.pieces.items():
+                file.seek(offset)
+                file.write(piece)
+            file.truncate(self.size)
 
 
 @dataclass(frozen=True)
 class Board:
-    """What a board folder holds."""
+    """What a board folder holds, beside `media/`: its files by their names; and files of media."""
 
-    eeprom: bytes
-    files: list[MediaFile]
+    parts: dict[str, SparseFile]
+    media: list[MediaFile]
 
 
-def chosen_fields(given: list[Field], with_defaults: bool) -> list[Field]:
-    """The fields given, after the default fields where these are wanted and not given anew."""
-    if given and not with_defaults:
+def whole(content: bytes) -> SparseFile:
+    """A file that is one piece."""
+    return SparseFile({0: content}, len(content))
+
+
+def chosen(
+    given: list[Item], defaults: list[Item], both: bool, name: Callable[[Item], str | int]
+) -> list[Item]:
+    """The items given, after the default ones where these are wanted and not given anew."""
+    if given and not both:
         return given
-    anew = {code for code, _ in given}
-    return [field for field in DEFAULT_FIELDS if field[0] not in anew] + given
+    anew = {name(item) for item in given}
+    return [item for item in defaults if name(item) not in anew] + given
 
 
-def chosen_files(given: list[MediaFile], with_defaults: bool) -> list[MediaFile]:
-    """The files given, after the default files where these are wanted and not given anew."""
-    if given and not with_defaults:
-        return given
-    anew = {file.path for file in given}
-    return [file for file in DEFAULT_FILES if file.path not in anew] + given
+def check_once(what: str, names: Iterable[str | int]) -> None:
+    """Raises BoardError where a name comes twice."""
+    seen: set[str | int] = set()
+    for name in names:
+        if name in seen:
+            raise BoardError(f"{what} {name!r} is given twice")
+        seen.add(name)
 
 
-def board_of(fields: list[str], files: list[str], with_defaults: bool) -> Board:
-    """The board that the options ask for."""
+def eeprom_of(options: list[str], both: bool) -> SparseFile:
+    """The EEPROM that the options --field ask for."""
+    given = [field_of(option) for option in options]
     try:
-        eeprom = encode(chosen_fields([field_of(option) for option in fields], with_defaults))
-    except EncodeError as error:
+        return whole(tlvinfo.encode(chosen(given, DEFAULT_FIELDS, both, itemgetter(0))))
+    except tlvinfo.EncodeError as error:
         raise BoardError(str(error)) from error
-    wanted = chosen_files([file_of(option) for option in files], with_defaults)
-    paths = [file.path for file in wanted]
-    for path in paths:
-        if paths.count(path) > 1:
-            raise BoardError(f"file {path!r} is given twice")
-    return Board(eeprom, wanted)
+
+
+def media_of(options: list[str], both: bool) -> list[MediaFile]:
+    """The files of volumes that the options --file ask for."""
+    files = chosen([file_of(option) for option in options], DEFAULT_FILES, both, attrgetter("path"))
+    check_once("file", (file.path for file in files))
+    return files
+
+
+def flash_of(options: list[str], both: bool) -> SparseFile:
+    """The flash with the variables that the options --variable ask for."""
+    given = [variable_of(option) for option in options]
+    variables = chosen(given, DEFAULT_VARIABLES, both, itemgetter(0))
+    check_once("variable", (name for name, _ in variables))
+    try:
+        content = flash.encode_variables(dict(variables))
+    except flash.EncodeError as error:
+        raise BoardError(str(error)) from error
+    return whole(flash.flash_image(flash.Slot(1, content)))
+
+
+def disk_of(options: list[str], both: bool, size: str) -> SparseFile:
+    """The disk with the entries that the options --entry ask for, and the images in them."""
+    sectors = sectors_of(size)
+    entries = chosen([entry_of(option) for option in options], DEFAULT_ENTRIES, both, itemgetter(0))
+    check_once("entry", (number for number, _ in entries))
+    table = gpt.Table(DISK, gpt.FIRST_USABLE, sectors - gpt.FIRST_USABLE, dict(entries))
+    for number, entry in DEFAULT_ENTRIES:
+        if (number, entry) in entries and entry.last > table.last_usable:
+            raise BoardError(
+                f"--sectors {size!r}: the default entry {number} ends with the sector "
+                f"{entry.last}, so --entry must be given, without --defaults"
+            )
+    try:
+        pieces = gpt.copies(table, sectors)
+    except gpt.EncodeError as error:
+        raise BoardError(str(error)) from error
+    for entry in table.entries.values():
+        if entry.kind == gpt.ONIE_BOOT and has_room(table, entry):
+            pieces[entry.first] = IMAGE
+    return SparseFile(
+        {lba * gpt.SECTOR_SIZE: piece for lba, piece in pieces.items()},
+        sectors * gpt.SECTOR_SIZE,
+    )
+
+
+def has_room(table: gpt.Table, entry: gpt.Entry) -> bool:
+    """Whether ONIE's image fits an entry within the usable sectors."""
+    last = entry.first + len(IMAGE) // gpt.SECTOR_SIZE - 1
+    return table.first_usable <= entry.first and last <= min(entry.last, table.last_usable)
+
+
+def board_of(options: argparse.Namespace) -> Board:
+    """The board that the options ask for."""
+    both = options.defaults
+    parts = {"eeprom.bin": eeprom_of(options.field, both)}
+    if options.disk:
+        parts["disk.img"] = disk_of(options.entry, both, options.sectors)
+    elif options.entry or options.sectors != DEFAULT_SECTORS:
+        raise BoardError("--no-disk makes no disk for --entry or --sectors")
+    if options.flash:
+        parts["flash.img"] = flash_of(options.variable, both)
+    elif options.variable:
+        raise BoardError("--no-flash makes no flash for --variable")
+    return Board(parts, media_of(options.file, both))
 
 
 def write_board(board: Board, folder: Path) -> None:
     """Writes the board into `folder`, which must not hold one and is made where it isn't there."""
-    for taken in (folder / "eeprom.bin", folder / "media"):
+    media = folder / "media"
+    for taken in (*(folder / name for name in board.parts), media):
         if os.path.lexists(taken):
             raise BoardError(f"{str(taken)!r} is there already")
-    media = folder / "media"
     media.mkdir(parents=True)
-    (folder / "eeprom.bin").write_bytes(board.eeprom)
-    for file in board.files:
+    for name, part in board.parts.items():
+        part.write(folder / name)
+    for file in board.media:
         place = media / file.volume
         place.mkdir(exist_ok=True)
-        (place / file.name).write_bytes(file.start)
-        os.truncate(place / file.name, file.size)
+        SparseFile({0: file.start}, file.size).write(place / file.name)
 
 
 class OneLineParser(argparse.ArgumentParser):
@@ -197,6 +222,15 @@ class OneLineParser(argparse.ArgumentParser):
     def error(self, message: str) -> NoReturn:
         """Hands the refusal on to `main`."""
         raise BoardError(" ".join(message.split()))
+
+
+REPEATABLE = [
+    ("--field", "CODE=TEXT", "a field of the EEPROM"),
+    ("--file", "VOLUME/NAME=CONTENT", "a file of a volume, or with =@SIZE one of SIZE zeros"),
+    ("--entry", "NUMBER=KIND,GUID,FIRST,LAST,NAME", "an entry of the partition table"),
+    ("--variable", "NAME=VALUE", "a boot variable"),
+]
+"""The options that may come again: the option, its value, and what it asks for."""
 
 
 def parser() -> OneLineParser:
@@ -209,24 +243,22 @@ def parser() -> OneLineParser:
         allow_abbrev=False,
     )
     line.add_argument("folder", metavar="FOLDER", type=Path, help="made where it isn't there")
+    for option, value, what in REPEATABLE:
+        text = f"{what}; may come again"
+        line.add_argument(option, metavar=value, action="append", default=[], help=text)
     line.add_argument(
-        "--field",
-        metavar="CODE=TEXT",
-        action="append",
-        default=[],
-        help="a field of the EEPROM; may come again",
+        "--sectors",
+        metavar="N",
+        default=DEFAULT_SECTORS,
+        help=f"how many sectors of 512 bytes the disk has, by default {DEFAULT_SECTORS}",
     )
-    line.add_argument(
-        "--file",
-        metavar="VOLUME/NAME=CONTENT",
-        action="append",
-        default=[],
-        help="a file of a volume, or with =@SIZE one of SIZE zeros; may come again",
-    )
+    line.add_argument("--no-disk", dest="disk", action="store_false", help="make no disk.img")
+    line.add_argument("--no-flash", dest="flash", action="store_false", help="make no flash.img")
     line.add_argument(
         "--defaults",
         action="store_true",
-        help="put the default fields and files before those given, which replace the same ones",
+        help="put the default fields, files, entries and variables before those given, which "
+        "replace the same ones",
     )
     return line
 
@@ -235,7 +267,7 @@ def main(words: list[str] | None = None) -> int:
     """Makes the board; gives 0, or 2 with one line on standard error that says what is wrong."""
     try:
         options = parser().parse_args(words)
-        write_board(board_of(options.field, options.file, options.defaults), options.folder)
+        write_board(board_of(options), options.folder)
     except (BoardError, OSError) as error:
         print(f"make_board: {error}", file=sys.stderr)
         return 2

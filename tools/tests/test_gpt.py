@@ -1,7 +1,6 @@
 """The partition table module: worked bytes, each row of a copy, and random tables and bytes."""
 
 import random
-import shutil
 import subprocess
 import tempfile
 import unittest
@@ -32,7 +31,10 @@ from gpt import (
     protective_sector,
     read_disk,
     sealed,
+    tables_of,
 )
+
+from tests import sgdisk
 
 SECTORS = 128
 LAST = SECTORS - 1
@@ -365,9 +367,7 @@ class Disks(unittest.TestCase):
 
     def test_sgdisk(self) -> None:
         """Another reader finds no problem in an image, where it is installed."""
-        program = shutil.which("sgdisk")
-        if program is None:
-            self.skipTest("sgdisk is not on the PATH")
+        program = self.sgdisk()
         data = Entry(LINUX_DATA, uuid.UUID(int=7), 4096, 6143, 4, "n" * 36)
         boot = replace(BOOT, first=2048, last=4095)
         table = Table(SMALL.disk, 34, 8192 - 34, {1: boot, 128: data})
@@ -379,6 +379,28 @@ class Disks(unittest.TestCase):
         # A copy that it could mend is no problem to it, but is told of before.
         self.assertEqual((done.returncode, done.stderr), (0, ""))
         self.assertRegex(done.stdout, r"\A\s*No problems found")
+
+    def test_table_of_sgdisk(self) -> None:
+        """An image that another writer makes is read from both copies, as that writer tells."""
+        program = self.sgdisk()
+        with tempfile.TemporaryDirectory() as folder:
+            disk = Path(folder) / "disk.img"
+            sgdisk.make_disk(program, disk)
+            told = {number: sgdisk.entry_at(program, disk, number) for number in (1, 2, 5, 128)}
+            with disk.open("rb") as image:
+                primary, backup = tables_of(image).values()
+        assert primary is not None
+        self.assertEqual(primary, backup)
+        self.assertEqual(primary.entries, told)
+        self.assertEqual(told[1].kind, ONIE_BOOT)
+        self.assertEqual((primary.first_usable, primary.last_usable), (34, sgdisk.SECTORS - 34))
+
+    def sgdisk(self) -> str:
+        """Where sgdisk is; skips the test where it isn't."""
+        program = sgdisk.sgdisk()
+        if program is None:
+            self.skipTest("sgdisk is not on the PATH")
+        return program
 
 
 class RandomTables(unittest.TestCase):

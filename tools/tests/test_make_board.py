@@ -1,14 +1,19 @@
-"""The board maker: its defaults, each kind of field, files, and each refusal."""
+"""The board maker: its defaults, each kind of field, files, entries, variables, and refusals."""
 
 import contextlib
 import io
+import os
 import subprocess
 import sys
 import tempfile
 import unittest
+import uuid
 from pathlib import Path
 
+import flash
+import gpt
 import make_board
+import status
 import tlvinfo
 
 SMALLEST = (
@@ -16,6 +21,10 @@ SMALLEST = (
     "7838365f36342d6b766d5f7838365f36342d72302406001122334455fe049921ba7f"
 )
 """The default EEPROM: the smallest identity."""
+
+ONIE_GUID = uuid.UUID("01234567-89ab-cdef-0123-4567000000ff")
+ONIE = gpt.Entry(gpt.ONIE_BOOT, ONIE_GUID, 2048, 18431, 0, "ONIE-BOOT")
+"""The default entry 1."""
 
 USB0 = "usb0/onie-installer"
 USB1 = "usb1/onie-installer-x86_64-kvm_x86_64-r0"
@@ -42,6 +51,25 @@ class BoardTest(unittest.TestCase):
 
     def eeprom(self) -> bytes:
         return (self.board / "eeprom.bin").read_bytes()
+
+    def table(self) -> gpt.Table:
+        """The table of the disk, both copies of which must be readable and the same."""
+        with (self.board / "disk.img").open("rb") as disk:
+            tables = gpt.tables_of(disk)
+        primary, backup = tables.values()
+        assert primary is not None
+        self.assertEqual(primary, backup)
+        return primary
+
+    def variables(self) -> dict[str, str]:
+        """The variables of the flash."""
+        return flash.read_flash((self.board / "flash.img").read_bytes()).variables
+
+    def status(self) -> tuple[int, str]:
+        """What `onie status` would say."""
+        image = (self.board / "flash.img").read_bytes()
+        with (self.board / "disk.img").open("rb") as disk:
+            return status.status_text(disk, image)
 
     def files(self) -> dict[str, bytes]:
         """The bytes of each file of the board's media, by volume and name."""
@@ -79,11 +107,16 @@ class Defaults(BoardTest):
 
     def test_same_options_same_bytes(self) -> None:
         options = ["--defaults", "--field", "FD=00ff", "--file", "sd/zeros=@70000"]
-        self.make(*options)
-        first = self.eeprom(), self.files()
-        self.board = self.folder / "again"
-        self.make(*options)
-        self.assertEqual((self.eeprom(), self.files()), first)
+        boards = []
+        for place in "first", "again":
+            self.board = self.folder / place
+            self.make(*options)
+            boards.append({
+                str(path.relative_to(self.board)): path.read_bytes()
+                for path in sorted(self.board.rglob("*"))
+                if path.is_file()
+            })
+        self.assertEqual(boards[0], boards[1])
 
 
 class Fields(BoardTest):
@@ -147,6 +180,148 @@ class Files(BoardTest):
         status = (self.board / "media/u/large").stat()
         self.assertEqual(status.st_size, 33_554_433)
         self.assertLess(status.st_blocks * 512, 1_000_000)
+
+
+class Disk(BoardTest):
+    def test_default_bytes(self) -> None:
+        """Fields at their offsets, spelled by hand; all that isn't named is zeros."""
+        self.make()
+        image = (self.board / "disk.img").read_bytes()
+        header = bytes.fromhex(
+            "4546492050415254" "00000100" "5c000000" "35c2bc1b" "00000000"
+            "0100000000000000" "ffff010000000000" "2200000000000000" "deff010000000000"
+            "67452301ab89efcd0123456789abcdef"
+            "0200000000000000" "80000000" "80000000" "f982335e"
+        )
+        entry = bytes.fromhex(
+            "d5f7127456a1134b81dc867174929325" "67452301ab89efcd01234567000000ff"
+            "0008000000000000" "ff47000000000000" "0000000000000000"
+            "4f004e00490045002d0042004f004f005400"
+        )
+        places = bytes.fromhex("f00eb095" "00000000" "ffff010000000000" "0100000000000000")
+        entries_at = bytes.fromhex("dfff010000000000")
+        backup = header[:16] + places + header[40:72] + entries_at + header[80:]
+        pieces = {
+            512: header,
+            1024: entry,
+            2048 * 512: b"ONIEIMG1\1\0\0\0",
+            2049 * 512: b"\1",
+            131039 * 512: entry,
+            131071 * 512: backup,
+        }
+        wanted = bytearray(131072 * 512)
+        for offset, piece in pieces.items():
+            wanted[offset : offset + len(piece)] = piece
+        self.assertTrue(image == wanted)
+
+    def test_default_table(self) -> None:
+        self.make()
+        disk = uuid.UUID("01234567-89ab-cdef-0123-456789abcdef")
+        self.assertEqual(self.table(), gpt.Table(disk, 34, 131038, {1: ONIE}))
+        image = (self.board / "disk.img").read_bytes()
+        self.assertEqual(gpt.read_disk(image), (self.table(), gpt.Which.PRIMARY))
+        self.assertEqual(self.status()[1].split("\n")[-2:], ["boots onie install", ""])
+
+    def test_takes_little_room(self) -> None:
+        """Of a disk the pieces that hold something take room, however large it is."""
+        for place, sectors in enumerate((131072, 2**24)):
+            self.board = self.folder / str(place)
+            self.make("--sectors", str(sectors))
+            found = (self.board / "disk.img").stat()
+            self.assertEqual(found.st_size, sectors * 512)
+            self.assertLess(found.st_blocks * 512, 1_000_000)
+
+    def test_entries(self) -> None:
+        """Entries replace the default one; kinds have words, and a GUID may be left out."""
+        kind = "c12a7328-f81f-11d2-ba4b-00a0c93ec93b"
+        own = "0F0E0D0C-0B0A-0908-0706-050403020100"
+        self.make(
+            f"--entry=3=linux,{own},40,50,a, b",
+            f"--entry=128={kind},,60,60,",
+            "--entry=1=onie,,51,59,\u00e9",
+            "--entry=2=" + kind.upper() + ",,18446744073709551615,0,wrong",
+            "--sectors=100",
+        )
+        numbered = "01234567-89ab-cdef-0123-4567000000"
+        efi, first, second = (uuid.UUID(text) for text in (kind, numbered + "01", numbered + "02"))
+        entries = {
+            1: gpt.Entry(gpt.ONIE_BOOT, first, 51, 59, 0, "\u00e9"),
+            2: gpt.Entry(efi, second, 2**64 - 1, 0, 0, "wrong"),
+            3: gpt.Entry(gpt.LINUX_DATA, uuid.UUID(own), 40, 50, 0, "a, b"),
+            128: gpt.Entry(efi, uuid.UUID(numbered + "80"), 60, 60, 0, ""),
+        }
+        self.assertEqual(self.table().entries, entries)
+        self.assertEqual((self.table().first_usable, self.table().last_usable), (34, 66))
+
+    def test_defaults_before_the_entries(self) -> None:
+        self.make("--defaults", "--entry=2=linux,,18432,51199,NOS")
+        self.assertEqual(self.table().entries[1], ONIE)
+        self.assertEqual(list(self.table().entries), [1, 2])
+        self.board = self.folder / "again"
+        self.make("--defaults", "--entry=1=linux,,18432,51199,NOS")
+        self.assertEqual(self.table().entries[1].kind, gpt.LINUX_DATA)
+
+    def test_images(self) -> None:
+        """Each entry of ONIE's type that has two usable sectors holds an image."""
+        self.make(
+            *("--entry=1=onie,,34,35,", "--entry=2=onie,,36,36,", "--entry=3=linux,,37,39,"),
+            *("--entry=4=onie,,66,67,", "--entry=5=onie,,50,40,", "--entry=6=onie,,65,70,"),
+            *("--entry=7=onie,,33,40,", "--sectors=100"),
+        )
+        image = (self.board / "disk.img").read_bytes()
+        begins = [lba for lba in range(100) if image[lba * 512 :].startswith(b"ONIEIMG1")]
+        self.assertEqual(begins, [34, 65])
+        self.assertEqual(image[65 * 512 : 67 * 512], image[34 * 512 : 36 * 512])
+
+    def test_smallest_disk(self) -> None:
+        self.make("--sectors=68", "--entry=1=linux,,34,34,")
+        self.assertEqual((self.table().first_usable, self.table().last_usable), (34, 34))
+
+    def test_none(self) -> None:
+        self.make("--no-disk")
+        self.assertEqual(sorted(os.listdir(self.board)), ["eeprom.bin", "flash.img", "media"])
+
+
+class FlashImage(BoardTest):
+    def test_default_bytes(self) -> None:
+        self.make()
+        image = (self.board / "flash.img").read_bytes()
+        pieces = {0: b"ONIEOPEN", 512: b"\1", 520: b"\x19", 524: b"onie_boot_reason=install"}
+        wanted = bytearray(34 * 512)
+        for offset, piece in pieces.items():
+            wanted[offset : offset + len(piece)] = piece
+        self.assertEqual(image, bytes(wanted))
+        read = flash.Flash(0, 1, {"onie_boot_reason": "install"})
+        self.assertEqual(flash.read_flash(image), read)
+
+    def test_variables(self) -> None:
+        """They replace the default one, in the order given."""
+        self.make("--variable", "b==", "--variable", "a=", "--variable", "_9=a b")
+        self.assertEqual(list(self.variables().items()), [("b", "="), ("a", ""), ("_9", "a b")])
+
+    def test_defaults_before_the_variables(self) -> None:
+        self.make("--defaults", "--variable", "a=b")
+        self.assertEqual(self.variables(), {"onie_boot_reason": "install", "a": "b"})
+        self.board = self.folder / "again"
+        self.make("--defaults", "--variable", "onie_boot_reason=rescue")
+        self.assertEqual(self.variables(), {"onie_boot_reason": "rescue"})
+
+    def test_longest(self) -> None:
+        self.make("--variable", "a=" + "v" * 8177)
+        self.assertEqual(len(self.variables()["a"]), 8177)
+
+    def test_none(self) -> None:
+        self.make("--no-flash")
+        self.assertEqual(sorted(os.listdir(self.board)), ["disk.img", "eeprom.bin", "media"])
+
+    def test_example_of_the_help(self) -> None:
+        """A board that boots the NOS in entry 2."""
+        guid = "01234567-89ab-cdef-0123-456700000002"
+        self.make(
+            *("--defaults", "--entry", "2=linux,,18432,51199,NOS"),
+            *("--variable", "onie_boot_reason=", "--variable", f"nos_bootcmd=boot {guid}"),
+        )
+        self.assertIn(f"\nboots nos {guid}\n", self.status()[1])
 
 
 class Refusals(BoardTest):
@@ -228,13 +403,72 @@ class Refusals(BoardTest):
     def test_file_given_twice(self) -> None:
         self.check_refused("'u/a' is given twice", "--file", "u/a=b", "--file", "u/a=@1")
 
+    def test_entries(self) -> None:
+        form = "is not NUMBER=KIND,GUID,FIRST,LAST,NAME"
+        decimals = "FIRST and LAST are decimals"
+        cases = [
+            ("1", form),
+            ("1,onie,,34,40,", form),
+            ("1=onie,,34,40", form),
+            ("0=onie,,34,40,", "a number from 1 to 128"),
+            ("129=onie,,34,40,", "a number from 1 to 128"),
+            ("01=onie,,34,40,", "a number from 1 to 128"),
+            ("=onie,,34,40,", "a number from 1 to 128"),
+            ("1=ONIE,,34,40,", "a kind is onie, linux or the GUID of a type"),
+            ("1=,,34,40,", "a kind is onie, linux or the GUID of a type"),
+            ("1=00000000-0000-0000-0000-000000000000,,34,40,", "that of an unused entry"),
+            ("1=onie,1,34,40,", "'1' is no GUID"),
+            ("1=onie,0123456789abcdef0123456789abcdef,34,40,", "is no GUID"),
+            ("1=onie,,0x22,40,", decimals),
+            ("1=onie,,34,,", decimals),
+            ("1=onie,,034,40,", decimals),
+            ("1=onie,,-1,40,", decimals),
+            ("1=onie,,34,\u0664,", decimals),
+            ("1=onie,,34,18446744073709551616,", "is no number of eight bytes"),
+            ("1=onie,,34,40," + "n" * 37, "the name has 37 units, more than 36"),
+        ]
+        for option, message in cases:
+            with self.subTest(option):
+                self.check_refused(message, "--entry", option)
+        twice = ("--entry", "7=onie,,34,40,", "--entry", "7=linux,,41,50,")
+        self.check_refused("entry 7 is given twice", *twice)
+
+    def test_sectors(self) -> None:
+        for size in ("67", "0", "-1", "068", "", "x", "1099511627777", "9" * 30):
+            message = "a disk with a table has 68 to 1099511627776 sectors"
+            self.check_refused(message, f"--sectors={size}")
+        message = "the default entry 1 ends with the sector 18431"
+        self.check_refused(message, "--sectors=18464")
+        self.check_refused(message, "--defaults", "--sectors=68", "--entry=2=linux,,34,34,")
+        self.make("--sectors=18465")
+
+    def test_variables(self) -> None:
+        cases = [
+            ("a", "is not NAME=VALUE"),
+            ("=a", "a name is 1 to 64 letters, digits or _"),
+            ("a-b=c", "a name is 1 to 64 letters, digits or _"),
+            ("n" * 65 + "=", "a name is 1 to 64 letters, digits or _"),
+            ("a=\u00e9", "a value has the characters from space to ~"),
+            ("a=b\nc", "a value has the characters from space to ~"),
+            ("a=" + "v" * 8178, "8181 bytes, more than 8180"),
+        ]
+        for option, message in cases:
+            with self.subTest(message):
+                self.check_refused(message, "--variable", option)
+        self.check_refused("variable 'a' is given twice", "--variable=a=", "--variable=a=b")
+
+    def test_options_without_their_file(self) -> None:
+        self.check_refused("--no-disk makes no disk", "--no-disk", "--entry=1=onie,,34,40,")
+        self.check_refused("--no-disk makes no disk", "--no-disk", "--sectors=100")
+        self.check_refused("--no-flash makes no flash", "--no-flash", "--variable=a=b")
+
     def test_options(self) -> None:
         self.check_refused("unrecognized arguments: --files", "--files")
         self.check_refused("unrecognized arguments: a b", "a\nb")
         self.check_refused("expected one argument", "--field")
 
     def test_what_stands_in_the_folder_is_kept(self) -> None:
-        for name in ("eeprom.bin", "media"):
+        for name in ("eeprom.bin", "media", "disk.img", "flash.img"):
             with self.subTest(name):
                 self.board = self.folder / name / "board"
                 self.board.mkdir(parents=True)
@@ -244,6 +478,16 @@ class Refusals(BoardTest):
                 self.assertIn("is there already", said)
                 self.assertEqual([path.name for path in self.board.iterdir()], [name])
                 self.assertEqual((self.board / name).read_text(), "old")
+
+    def test_a_disk_and_a_flash_that_are_not_made(self) -> None:
+        """They may stand there already, and stay."""
+        self.board.mkdir()
+        for name in ("disk.img", "flash.img"):
+            (self.board / name).write_text("old")
+        self.make("--no-disk", "--no-flash")
+        self.assertEqual((self.board / "disk.img").read_text(), "old")
+        self.assertEqual((self.board / "flash.img").read_text(), "old")
+        self.assertEqual(self.eeprom().hex(), SMALLEST)
 
     def test_what_the_system_refuses(self) -> None:
         self.board.write_text("no folder")
