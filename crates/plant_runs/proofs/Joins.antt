@@ -62,7 +62,7 @@ same_images : (old new : View) → OnlyReads old new → (c : Image) → IsImage
 same_images old new only c image a s synced =
     same_sector_trans (old.reads a) (new.reads a) (c a) s (same_all old.reads new.reads only.reads a s) (image a s (λ un. synced (only.unsynced.unsynced a s un)))
 
-continues_call : (old new : View) → Passes old new → Continues old new
+pub continues_call : (old new : View) → Passes old new → Continues old new
 continues_call old new passes = record { size = passes.size; tells = passes.tells; still_tells = passes.still_tells; later = passes.later }
 
 -- a read

@@ -1,3 +1,5 @@
+pub mod Body
 pub mod Choice
 pub mod Head
 pub mod Pair
+pub mod Putting

@@ -1,17 +1,15 @@
 //! The head of a slot: its gate's sector and the first sector of its body.
 
-ghost use Rattle.std.specs.Prelude.{◌≡◌, ◌<◌, ◌≤◌, ◌+◌, ◌*◌, ◌^◌, length, take, drop, IfOk, option_map};
+ghost use Rattle.std.specs.Prelude.{◌≡◌, ◌<◌, ◌≤◌, ◌+◌, ◌*◌, ◌^◌, length, take, drop, nat_lt, IfOk, option_map};
 ghost use Rattle.bd_dev.specs.Faults.{HasCause};
 ghost use Rattle.plant_runs.specs.Runs.{Looks};
 ghost use Rattle.slot_pair.specs.Head.{content_length, is_open_head, number_in};
-ghost use Rattle.storage_model.specs.Slots.{slot};
+ghost use Rattle.storage_model.specs.Slots.{most_bytes, slot};
 
+use crate::gates::says_open;
 use bd_dev::{Area, Failed, Plant};
 use byteorder::{ByteOrder, LittleEndian};
 use plant_runs::read_sectors;
-
-/// What an open gate begins with.
-const OPEN: &[u8; 8] = b"ONIEOPEN";
 
 /// The length in bytes that a body says its content has.
 fn length_in(body: &[u8]) -> usize
@@ -22,6 +20,15 @@ fn length_in(body: &[u8]) -> usize
     LittleEndian::read_u32(&body[8..]) as usize
 }
 
+/// Whether so many bytes of content are more than a slot with `sectors` sectors of body has room for.
+pub(crate) fn is_too_long(length: usize, sectors: usize) -> bool
+    requires some { 0 < sectors }
+    requires few { sectors ≤ 65536 }
+    ensures { result ≡ nat_lt (most_bytes sectors) length }
+{
+    length > 512 * sectors - 12
+}
+
 /// Whether the slot with this head and `sectors` sectors of body is open.
 fn is_open(head: &[u8], sectors: usize) -> bool
     requires head { length head.now ≡ 1024 }
@@ -30,7 +37,7 @@ fn is_open(head: &[u8], sectors: usize) -> bool
     ensures { result ≡ is_open_head sectors head.now }
 {
     let (_, body) = head.split_at(512);
-    &head[..8] == OPEN.as_slice() && length_in(body) <= 512 * sectors - 12
+    says_open(head) && length_in(body) <= 512 * sectors - 12
 }
 
 /// The number of the slot with this head and `sectors` sectors of body, or None where it is not open.

@@ -1,15 +1,19 @@
 //! A pair of slots.
 
-ghost use Rattle.std.specs.Prelude.{◌≡◌, ◌⊎◌, ◌<◌, ◌≤◌, ◌+◌, ◌*◌, ◌^◌, length, take, nat_le, Ok, Err, Some, None, IfOk};
+ghost use Rattle.std.specs.Prelude.{◌≡◌, ◌≢◌, ◌⊎◌, ◌↔◌, ◌<◌, ◌≤◌, ◌+◌, ◌-◌, ◌*◌, ◌^◌, length, take, nat_le, not, Ok, Err, Some, None, IfOk, IsTrue, OnErr, OnOk};
 ghost use Rattle.bd_dev.specs.Faults.{HasCause, HasCauseOr};
+ghost use Rattle.bd_dev.specs.Plant.{IsSynced};
 ghost use Rattle.plant_runs.specs.Runs.{Looks};
-ghost use Rattle.slot_pair.specs.Choice.{chosen};
 ghost use Rattle.slot_pair.specs.Pair.{Fits, Pair};
+ghost use Rattle.slot_pair.specs.Putting.{Formats, IsStored, Puts, formatted, turned};
 ghost use Rattle.slot_pair.specs.declared.fault.SlotFault.TheVariants.{Fault, NoSlot};
 ghost use Rattle.storage_model.specs.Slots.{current, current_in, most_bytes, pair_sectors, slot_lba};
 
-use crate::fault::SlotFault;
-use crate::head::{content_to_front, slot_number};
+use crate::choice::choose;
+use crate::fault::{PutFault, SlotFault};
+use crate::gates::close_gate;
+use crate::head::{content_to_front, is_too_long, slot_number};
+use crate::slots::{close_slots, fill_slot, slot_gate};
 use bd_dev::{Area, Failed, Plant};
 use plant_runs::read_sectors;
 use std::marker::Model;
@@ -37,35 +41,28 @@ fn has_room(size: u64, base: u64, sectors: u64) -> bool
     sectors <= size && base <= size - sectors
 }
 
-/// The current one of two slots, by their numbers where they are open: whether it is the second, and its number.
-fn choose(first: Option<u64>, second: Option<u64>) -> Option<(bool, u64)>
-    ensures { result ≡ chosen first second }
-{
-    match (first, second) {
-        (None, None) => None,
-        (Some(number), None) => Some((false, number)),
-        (None, Some(number)) => Some((true, number)),
-        (Some(number), Some(other)) => {
-            if number < other {
-                Some((true, other))
-            } else {
-                Some((false, number))
-            }
-        }
-    }
-}
-
 impl<const N: usize> SlotPair<N> {
     /// The sector of the current slot's gate.
     fn gate(&self) -> u64
         requires { self.now.base + pair_sectors N < 2 ^ 64 }
         ensures { result ≡ slot_lba N self.now.base self.now.second }
     {
-        if self.second {
-            self.base + N as u64 + 1
-        } else {
-            self.base
-        }
+        slot_gate(self.base, N, self.second)
+    }
+
+    /// The sector of the other slot's gate.
+    fn other_gate(&self) -> u64
+        requires { self.now.base + pair_sectors N < 2 ^ 64 }
+        ensures { result ≡ slot_lba N self.now.base (not self.now.second) }
+    {
+        slot_gate(self.base, N, !self.second)
+    }
+
+    /// Whether the current slot has the greatest number that there is, so that a put is `SeqEnd`.
+    pub fn is_last(&self) -> bool
+        ensures { IsTrue result ↔ (self.now.number ≡ 2 ^ 64 - 1) }
+    {
+        self.number == u64::MAX
     }
 
     /// Finds the current slot of the pair that begins at the sector `base` of an area, in two reads of two sectors. The
@@ -123,5 +120,84 @@ impl<const N: usize> SlotPair<N> {
         read_sectors(plant, self.area, gate + 1, body)?;
         let length = content_to_front(body);
         Ok(length)
+    }
+
+    /// Puts a content into the slot that is not current, which is current from then on, under the next number. A crash
+    /// at any moment leaves the content before or this one, and after Ok this one.
+    ///
+    /// If the other slot's gate reads open, zeros are written over it and synced. Then the body is written and synced,
+    /// then the open gate is written and synced: at most 2 + (12 + content length) / 512, rounded up, writes of a sector
+    /// and three syncs. The plant fits the pair, and nothing of the pair's area is unsynced.
+    ///
+    /// `TooLong` where the content has over 512 N - 12 bytes, else `SeqEnd` where no number is left: then no call was
+    /// made. `Fault` where the plant fails: then this pair may no longer fit the plant.
+    pub fn put<P: Plant>(&mut self, plant: &mut P, content: &[u8]) -> Result<(), PutFault>
+        requires some { 0 < N }
+        requires few { N ≤ 65536 }
+        requires fits { Fits N (P.view plant.old) self.old }
+        requires synced { (P.view plant.old).tells → IsSynced (P.view plant.old) self.old.area }
+        ensures too_long { (result ≡ Err PutFault.TooLong) ↔ (most_bytes N < length content.now) }
+        ensures seq_end { (result ≡ Err PutFault.SeqEnd)
+            ↔ ((length content.now ≤ most_bytes N) × (self.old.number ≡ 2 ^ 64 - 1)) }
+        ensures refused { (result ≡ Err PutFault.TooLong) ⊎ (result ≡ Err PutFault.SeqEnd)
+            → plant.new ≡ plant.old }
+        ensures kept { OnErr result (self.new ≡ self.old) }
+        ensures turned { OnOk result (self.new ≡ turned self.old) }
+        ensures stored { OnOk result (IsStored N (P.view plant.new) self.new content.now) }
+        ensures puts { Puts N self.old content.now (P.view plant.old) (P.view plant.new) }
+        ensures cause { HasCauseOr PutFault.Fault (P.view plant.old).faults (P.view plant.new).faults result }
+    {
+        if is_too_long(content.len(), N) {
+            return Err(PutFault::TooLong);
+        }
+        if self.is_last() {
+            return Err(PutFault::SeqEnd);
+        }
+        let gate = self.other_gate();
+        close_gate(plant, self.area, gate)?;
+        fill_slot(plant, self.area, gate, N, self.number + 1, content)?;
+        self.second = !self.second;
+        self.number += 1;
+        Ok(())
+    }
+
+    /// Makes the pair that begins at the sector `base` of an area, with this content in its first slot under number 1.
+    /// A crash at any moment leaves the content of the pair that was there before, this one, or no open slot; after Ok
+    /// this one.
+    ///
+    /// Each gate that reads open is closed and synced, the current slot's last. Then the first slot's body is written and
+    /// synced, then its gate. The area has room for the 2 (N + 1) sectors, and nothing of it is unsynced.
+    ///
+    /// `TooLong` where the content has over 512 N - 12 bytes: then no call was made. `Fault` where the plant fails. Never
+    /// `SeqEnd`.
+    pub fn format<P: Plant>(
+        plant: &mut P,
+        area: Area,
+        base: u64,
+        content: &[u8],
+    ) -> Result<SlotPair<N>, PutFault>
+        requires some { 0 < N }
+        requires few { N ≤ 65536 }
+        requires room { base + pair_sectors N ≤ (P.view plant.old).size area }
+        requires synced { (P.view plant.old).tells → IsSynced (P.view plant.old) area }
+        ensures too_long { (result ≡ Err PutFault.TooLong) ↔ (most_bytes N < length content.now) }
+        ensures refused { result ≡ Err PutFault.TooLong → plant.new ≡ plant.old }
+        ensures never { result ≢ Err PutFault.SeqEnd }
+        ensures made { IfOk result (λ pair. pair ≡ formatted area base) }
+        ensures stored { IfOk result (λ pair. IsStored N (P.view plant.new) pair content.now) }
+        ensures formats { Formats N area base content.now (P.view plant.old) (P.view plant.new) }
+        ensures cause { HasCauseOr PutFault.Fault (P.view plant.old).faults (P.view plant.new).faults result }
+    {
+        if is_too_long(content.len(), N) {
+            return Err(PutFault::TooLong);
+        }
+        close_slots(plant, area, base, N)?;
+        fill_slot(plant, area, base, N, 1, content)?;
+        Ok(SlotPair {
+            area,
+            base,
+            second: false,
+            number: 1,
+        })
     }
 }

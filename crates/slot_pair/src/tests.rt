@@ -7,12 +7,19 @@ use bd_dev::Area;
 use bd_sim::SimPlant;
 use std::test::Fail;
 
-const OPEN: &[u8; 8] = b"ONIEOPEN";
+pub(crate) const OPEN: &[u8; 8] = b"ONIEOPEN";
 
-const CLOSED: &[u8; 8] = &[0; 8];
+pub(crate) const CLOSED: &[u8; 8] = &[0; 8];
 
 /// Makes the slot whose gate is in this sector.
-fn put(flash: &mut [u8; 3584], gate: usize, word: &[u8; 8], number: u64, long: u32, content: &[u8])
+pub(crate) fn put(
+    flash: &mut [u8; 3584],
+    gate: usize,
+    word: &[u8; 8],
+    number: u64,
+    long: u32,
+    content: &[u8],
+)
     requires room { 512 * gate + 1536 ≤ 3584 }
     requires short { length content.now ≤ 1012 }
 {
@@ -25,7 +32,7 @@ fn put(flash: &mut [u8; 3584], gate: usize, word: &[u8; 8], number: u64, long: u
 
 /// Seven sectors: behind the first a pair of slots of two sectors of body, of which one holds `one` and the other
 /// `second`.
-fn flash(first: (&[u8; 8], u64), second: (&[u8; 8], u64)) -> [u8; 3584]
+pub(crate) fn flash(first: (&[u8; 8], u64), second: (&[u8; 8], u64)) -> [u8; 3584]
     ensures { length result ≡ 3584 }
 {
     let mut flash = [0xEE; 3584];
@@ -35,7 +42,7 @@ fn flash(first: (&[u8; 8], u64), second: (&[u8; 8], u64)) -> [u8; 3584]
 }
 
 /// Whether the pair's current content is this.
-fn reads(plant: &mut SimPlant, content: &[u8]) -> Result<bool, SlotFault> {
+pub(crate) fn reads(plant: &mut SimPlant, content: &[u8]) -> Result<bool, SlotFault> {
     let pair = SlotPair::<2>::open(plant, Area::Flash, 1)?;
     let mut out = [0; 1024];
     let length = pair.read(plant, &mut out)?;

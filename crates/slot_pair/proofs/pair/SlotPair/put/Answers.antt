@@ -1,0 +1,27 @@
+use Rattle.slot_pair.proofs.Puts.{closing_puts, filling_puts, filling_stores, puts_nothing}
+use Rattle.slot_pair.proofs.pair.SlotPair.put.Goals as goal
+
+pub returns-then-is_too_long-clause-puts : goal.returns-then-is_too_long-clause-puts
+returns-then-is_too_long-clause-puts g c = puts_nothing _ _ _ _ c.requires.some (g.met.P.Plant.honest c.args.plant.now) c.requires.synced
+
+pub returns-then-is_last-clause-puts : goal.returns-then-is_last-clause-puts
+returns-then-is_last-clause-puts g c = puts_nothing _ _ _ _ c.requires.some (g.met.P.Plant.honest c.args.plant.now) c.requires.synced
+
+pub returns-in_err-close_gate-clause-puts : goal.returns-in_err-close_gate-clause-puts
+returns-in_err-close_gate-clause-puts g c =
+    closing_puts _ _ _ c.self.view_is _ _ c.requires.some _ _ c.requires.synced c.requires.fits c.other_gate-gate.ensures c.close_gate.ensures.touches c.close_gate.ensures.unwritten
+
+pub returns-in_err-fill_slot-clause-puts : goal.returns-in_err-fill_slot-clause-puts
+returns-in_err-fill_slot-clause-puts g c =
+    filling_puts _ _ _ c.self.view_is _ _ c.requires.some _ _ c.requires.synced c.requires.fits c.other_gate-gate.ensures c.close_gate.ensures.touches c.close_gate.ensures.unwritten
+    _ c.fill_slot.ensures.touches c.fill_slot.ensures.crash
+
+pub returns-clause-puts : goal.returns-clause-puts
+returns-clause-puts g c =
+    filling_puts _ _ _ c.self.view_is _ _ c.requires.some _ _ c.requires.synced c.requires.fits c.other_gate-gate.ensures c.close_gate.ensures.touches c.close_gate.ensures.unwritten
+    _ c.fill_slot.ensures.touches c.fill_slot.ensures.crash
+
+pub returns-clause-stored : goal.returns-clause-stored
+returns-clause-stored g c =
+    filling_stores _ _ _ c.self.view_is _ _ c.requires.some _ _ c.requires.synced c.requires.fits c.other_gate-gate.ensures c.close_gate.ensures.touches c.close_gate.ensures.unwritten
+    _ c.fill_slot.ensures.touches c.fill_slot.ensures.crash c.in_ok-fill_slot.ensures.filled c.in_ok-fill_slot.ensures.synced
