@@ -4,6 +4,7 @@ ghost use Rattle.std.specs.Prelude.{◌≡◌, ◌+◌, ◌≤◌, length};
 
 use super::*;
 use bd_bytes::crc32;
+use bd_text::Guid;
 use byteorder::{ByteOrder, LittleEndian};
 
 /// The last sector of the disk.
@@ -168,5 +169,60 @@ fn other_bytes_are_free(rt: HostRuntime) {
         mend(&mut changed, which);
         let table = read_copy(&changed, which, LAST).expect(&rt, "a copy");
         assert_eq!(rt; table.entries[1].name[0], 0x1234);
+    }
+}
+
+/// What Python made is read, and written again, over other bytes.
+#[test]
+fn what_was_read_is_written(rt: HostRuntime) {
+    for which in [Which::Primary, Which::Backup] {
+        let table = read_copy(&copy(which), which, LAST).expect(&rt, "a copy");
+        let mut out = [0xa5; 16896];
+        write_copy(&table, which, LAST, &mut out);
+        assert!(rt; out == copy(which));
+    }
+}
+
+/// An entry of seven sectors whose fields differ from those of every other place.
+fn used(place: u8) -> Entry {
+    let first = 34 + 7 * u64::from(place);
+    Entry {
+        kind: Guid {
+            bytes: [255 - place; 16],
+        },
+        guid: Guid { bytes: [place; 16] },
+        first,
+        last: first + 6,
+        attributes: u64::from(place) << 56,
+        name: [0x4e00 + u16::from(place); 36],
+    }
+}
+
+/// A table of 128 used entries.
+fn full() -> Table
+    ensures first { result.first_usable ≡ 34 }
+    ensures last { result.last_usable ≡ 967 }
+{
+    let mut entries = [used(0); 128];
+    for place in 0..128u8 {
+        entries[usize::from(place)] = used(place);
+    }
+    Table {
+        disk: Guid { bytes: [0xd1; 16] },
+        first_usable: 34,
+        last_usable: 967,
+        entries,
+    }
+}
+
+/// The checksum of each copy is that of Python's `zlib.crc32` over its 16,896 bytes.
+#[test]
+fn a_full_table_is_written_and_read(rt: HostRuntime) {
+    for (which, checksum) in [(Which::Primary, 0x92ff_4d67), (Which::Backup, 0x52e1_a404)] {
+        let table = full();
+        let mut out = [0xa5; 16896];
+        write_copy(&table, which, LAST, &mut out);
+        assert_eq!(rt; crc32(&out), checksum);
+        assert_eq!(rt; read_copy(&out, which, LAST), Some(table));
     }
 }

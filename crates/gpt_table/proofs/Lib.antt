@@ -1,2 +1,5 @@
+mod Editing
 mod Finding
+mod Running
 mod Standing
+mod Taking

@@ -1,1 +1,4 @@
 pub mod Together
+pub mod Edits
+pub mod Runs
+pub mod NewGuid

@@ -19,7 +19,7 @@ pub fn is_used(entry: &Entry) -> bool
 }
 
 /// Whether an entry lies in the usable range.
-fn is_within(table: &Table, entry: &Entry) -> bool
+pub(crate) fn is_within(table: &Table, entry: &Entry) -> bool
     ensures { IsTrue result ↔ IsWithin table.now entry.now }
 {
     table.first_usable <= entry.first
