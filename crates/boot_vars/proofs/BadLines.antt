@@ -25,7 +25,7 @@ no_value (v ∷ vs) name fresh = elim (cases_Bool (bytes_eq v.name name)) [
       ∙ no_value vs name (λ among. fresh (Contains-append_right (v.name ∷ []) (names_of vs) name among))
 ]
 
-fresh_name : (vs : List Variable) (name : List ℕ) → value_among vs name ≡ None → ¬ Contains (names_of vs) name
+pub fresh_name : (vs : List Variable) (name : List ℕ) → value_among vs name ≡ None → ¬ Contains (names_of vs) name
 fresh_name [] name none = λ among. let lt = among.1 in absurd (omega (arith, lt))
 fresh_name (v ∷ vs) name none = elim (cases_Bool (bytes_eq v.name name)) [
   | inl same ↦

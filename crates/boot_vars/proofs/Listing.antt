@@ -16,7 +16,7 @@ value_in lines name = option_map (after_first is_equals) (find (is_line_of name)
 first_line : (v : Variable) (rest : List ℕ) → is_variable v ≡ true → slice_split is_end (line_of v ++ rest) ≡ assignment v ∷ slice_split is_end rest
 first_line v rest is = ap (slice_split is_end) (line_then v rest) ∙ slice_split_at is_end (assignment v) 0 rest (no_end v is) refl
 
-named : (v : Variable) (name : List ℕ) → is_variable v ≡ true → is_line_of name (assignment v) ≡ bytes_eq v.name name
+pub named : (v : Variable) (name : List ℕ) → is_variable v ≡ true → is_line_of name (assignment v) ≡ bytes_eq v.name name
 named v name is = let parts = equals_cut v is in λ i. parts.any i && bytes_eq (parts.before i) name
 
 one_of : (b : Bool) (v : Variable) (line : List ℕ) (later : Option (List ℕ)) (others : Option Variable) → after_first is_equals line ≡ v.value

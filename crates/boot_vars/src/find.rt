@@ -17,7 +17,7 @@ pub(crate) fn cut_at(text: &[u8], byte: u8) -> Option<(&[u8], &[u8])>
 }
 
 /// Whether a line is one of this name.
-fn is_line_of(line: &[u8], name: &[u8]) -> bool
+pub(crate) fn is_line_of(line: &[u8], name: &[u8]) -> bool
     ensures { result ≡ is_line_of name.now line.now }
 {
     match cut_at(line, b'=') {

@@ -8,11 +8,16 @@
 mod fault;
 mod find;
 mod lines;
+mod place;
 mod vars;
 
 pub use bd_mode::Mode;
-pub use fault::VarsFault;
+pub use fault::{VarFault, VarsFault};
 pub use vars::BootVars;
 
+#[cfg(test)]
+mod change_tests;
+#[cfg(test)]
+mod cut_tests;
 #[cfg(test)]
 mod tests;

@@ -23,7 +23,7 @@ fn are_name_bytes(name: &[u8]) -> bool
 
 /// Whether these are 1 to 64 letters, digits or `_`.
 #[tactic(auto, unfolding(storage_model::specs::Variables::is_name))]
-fn is_name(name: &[u8]) -> bool
+pub(crate) fn is_name(name: &[u8]) -> bool
     ensures { result ≡ is_name name.now }
 {
     1 <= name.len() && name.len() <= 64 && are_name_bytes(name)
@@ -31,7 +31,7 @@ fn is_name(name: &[u8]) -> bool
 
 /// Whether each byte is printable ASCII.
 #[tactic(auto, unfolding(storage_model::specs::Variables::is_value))]
-fn is_value(value: &[u8]) -> bool
+pub(crate) fn is_value(value: &[u8]) -> bool
     ensures { result ≡ is_value value.now }
 {
     value.iter().all(|byte| 0x20 <= *byte && *byte <= 0x7E)

@@ -10,7 +10,7 @@ use std::test::Fail;
 const OPEN: &[u8; 8] = b"ONIEOPEN";
 
 /// Makes the slot whose gate is in this sector, with an open gate.
-fn put(flash: &mut [u8; 17408], gate: usize, number: u64, text: &[u8])
+pub(crate) fn put(flash: &mut [u8; 17408], gate: usize, number: u64, text: &[u8])
     requires room { 512 * gate + 8704 ≤ 17408 }
     requires short { length text.now ≤ 8180 }
 {
@@ -22,7 +22,7 @@ fn put(flash: &mut [u8; 17408], gate: usize, number: u64, text: &[u8])
 }
 
 /// A flash of 34 sectors, whose second slot holds the text, and whose first one is closed.
-fn flash(text: &[u8]) -> [u8; 17408]
+pub(crate) fn flash(text: &[u8]) -> [u8; 17408]
     requires { length text.now ≤ 8180 }
     ensures { length result ≡ 17408 }
 {

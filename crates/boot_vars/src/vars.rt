@@ -1,18 +1,22 @@
 //! The boot variables.
 
-ghost use Rattle.std.specs.Prelude.{◌≡◌, ◌⊎◌, ◌≤◌, ℕ, List, length, Ok, Err, Some, None, IfOk, IfSome, option_map};
+ghost use Rattle.std.specs.Prelude.{◌≡◌, ◌≢◌, ◌⊎◌, ◌≤◌, ℕ, List, length, Ok, Err, Some, None, IfOk, IfSome, IsSome, OnErr, OnOk, option_map, take};
 ghost use Rattle.bd_dev.specs.declared.plant.Area.TheVariants.{Flash};
 ghost use Rattle.bd_dev.specs.Faults.{HasCauseOr};
+ghost use Rattle.bd_dev.specs.Plant.{IsSynced};
 ghost use Rattle.bd_text.specs.declared.guid.Guid.{Guid};
-ghost use Rattle.boot_vars.specs.Vars.{FitsVars};
+ghost use Rattle.boot_vars.specs.Setting.{Changes, IsAnswer, IsDurable, answer, changed, put_refusal, set_refusal, unset_refusal, with_variable, without};
+ghost use Rattle.boot_vars.specs.Vars.{AreVars, FitsVars};
+ghost use Rattle.boot_vars.specs.declared.fault.VarFault.TheVariants as var_faults;
 ghost use Rattle.boot_vars.specs.declared.fault.VarsFault.TheVariants.{BadLine, Fault, NoSlot};
 ghost use Rattle.plant_runs.specs.Runs.{Looks};
 ghost use Rattle.storage_model.specs.Slots.{Stored};
-ghost use Rattle.storage_model.specs.Variables.{HoldsVariables, IsBadLine, IsText, Names, Spells, Variable, kept_in, mode_in, value_among, value_of};
+ghost use Rattle.storage_model.specs.Variables.{HoldsVariables, IsBadLine, IsText, Names, Spells, Variable, kept_in, lines_of, mode_in, value_among, value_of};
 
-use crate::fault::VarsFault;
+use crate::fault::{VarFault, VarsFault};
 use crate::find::value_in;
-use crate::lines::first_bad_line;
+use crate::lines::{first_bad_line, is_name, is_value};
+use crate::place::{has_room, place_of, write_with, write_without};
 use bd_dev::{Area, Plant};
 use bd_mode::Mode;
 use bd_text::Guid;
@@ -49,6 +53,7 @@ impl BootVars {
             HoldsVariables ((P.view plant.old).size Flash) ((P.view plant.old).reads Flash)
             (record { number = vars.pair.number; content = vars.text })) }
         ensures fits { IfOk result (λ vars. FitsVars (P.view plant.new) vars) }
+        ensures lines { IfOk result (λ vars. IsText vars.text) }
         ensures no_slot { (P.view plant.old).tells → result ≡ Err NoSlot
             → kept_in ((P.view plant.old).size Flash) ((P.view plant.old).reads Flash) ≡ None }
         ensures empty { (P.view plant.old).tells
@@ -107,5 +112,124 @@ impl BootVars {
         let command = self.get(b"nos_bootcmd")?;
         let spelling = command.strip_prefix(b"boot ")?;
         Guid::parse(spelling)
+    }
+
+    /// What [`BootVars::set`] would answer, but for `Fault`.
+    pub fn may_set(&self, name: &[u8], value: &[u8]) -> Result<(), VarFault>
+        ensures never { result ≢ Err var_faults.Fault }
+        ensures answer { (vs : List Variable) → Spells self.now.text vs
+            → result ≡ answer (set_refusal vs self.now.pair.number (record { name = name.now; value = value.now })) }
+    {
+        if !is_name(name) {
+            return Err(VarFault::BadName);
+        }
+        if !is_value(value) {
+            return Err(VarFault::BadText);
+        }
+        let text = self.text();
+        let place = place_of(text, name);
+        if !has_room(text.len() - place.size, name, value) {
+            return Err(VarFault::VarsFull);
+        }
+        if self.pair.is_last() {
+            return Err(VarFault::SeqEnd);
+        }
+        Ok(())
+    }
+
+    /// Gives the variable of this name this value: in the place of its line, or in a line behind all others. A crash at
+    /// any moment leaves the variables before or after the change, and after Ok those after it. The plant fits the
+    /// variables, and nothing of the flash is unsynced.
+    ///
+    /// `BadName` where the name is not 1 to 64 letters, digits or `_`, else `BadText` where the value is not printable
+    /// ASCII, else `VarsFull` where the text would pass 8,180 bytes, else `SeqEnd` where no number is left for a put:
+    /// then no call was made. `Fault` where the plant fails: then these variables may no longer fit the plant.
+    pub fn set<P: Plant>(
+        &mut self,
+        plant: &mut P,
+        name: &[u8],
+        value: &[u8],
+    ) -> Result<(), VarFault>
+        requires fits { FitsVars (P.view plant.old) self.old }
+        requires synced { (P.view plant.old).tells → IsSynced (P.view plant.old) Flash }
+        ensures answer { (vs : List Variable) → Spells self.old.text vs
+            → IsAnswer (set_refusal vs self.old.pair.number (record { name = name.now; value = value.now })) result }
+        ensures refused { (vs : List Variable) → Spells self.old.text vs
+            → IsSome (set_refusal vs self.old.pair.number (record { name = name.now; value = value.now })) → plant.new ≡ plant.old }
+        ensures kept { OnErr result (self.new ≡ self.old) }
+        ensures set { (vs : List Variable) → Spells self.old.text vs → OnOk result
+            (self.new ≡ changed self.old (lines_of (with_variable vs (record { name = name.now; value = value.now })))) }
+        ensures durable { OnOk result (IsDurable (P.view plant.new) self.new) }
+        ensures changes { (vs : List Variable) → Spells self.old.text vs
+            → Changes self.old (lines_of (with_variable vs (record { name = name.now; value = value.now }))) (P.view plant.old) (P.view plant.new) }
+        ensures cause { HasCauseOr var_faults.Fault (P.view plant.old).faults (P.view plant.new).faults result }
+    {
+        if let Err(fault) = self.may_set(name, value) {
+            return Err(fault);
+        }
+        let place = place_of(self.text(), name);
+        let mut text = [0; 8192];
+        let length = write_with(self.text(), place, name, value, &mut text);
+        self.store(plant, text, length)
+    }
+
+    /// Takes out the variable of this name. Where there is none, nothing is done. A crash at any moment leaves the
+    /// variables before or after the change, and after Ok those after it. The plant fits the variables, and nothing of
+    /// the flash is unsynced.
+    ///
+    /// `BadName` where the name is not 1 to 64 letters, digits or `_`; `SeqEnd` where there is such a variable and no
+    /// number is left for a put: then no call was made. `Fault` where the plant fails: then these variables may no
+    /// longer fit the plant.
+    pub fn unset<P: Plant>(&mut self, plant: &mut P, name: &[u8]) -> Result<(), VarFault>
+        requires fits { FitsVars (P.view plant.old) self.old }
+        requires synced { (P.view plant.old).tells → IsSynced (P.view plant.old) Flash }
+        ensures answer { (vs : List Variable) → Spells self.old.text vs
+            → IsAnswer (unset_refusal vs self.old.pair.number name.now) result }
+        ensures refused { (vs : List Variable) → Spells self.old.text vs
+            → IsSome (unset_refusal vs self.old.pair.number name.now) → plant.new ≡ plant.old }
+        ensures absent { (vs : List Variable) → Spells self.old.text vs → value_among vs name.now ≡ None
+            → (plant.new ≡ plant.old) × (self.new ≡ self.old) }
+        ensures kept { OnErr result (self.new ≡ self.old) }
+        ensures set { (vs : List Variable) → Spells self.old.text vs → IsSome (value_among vs name.now) → OnOk result
+            (self.new ≡ changed self.old (lines_of (without vs name.now))) }
+        ensures durable { OnOk result (IsDurable (P.view plant.new) self.new) }
+        ensures changes { (vs : List Variable) → Spells self.old.text vs
+            → Changes self.old (lines_of (without vs name.now)) (P.view plant.old) (P.view plant.new) }
+        ensures cause { HasCauseOr var_faults.Fault (P.view plant.old).faults (P.view plant.new).faults result }
+    {
+        if !is_name(name) {
+            return Err(VarFault::BadName);
+        }
+        let place = place_of(self.text(), name);
+        if place.size == 0 {
+            return Ok(());
+        }
+        let mut text = [0; 8192];
+        let length = write_without(self.text(), place, &mut text);
+        self.store(plant, text, length)
+    }
+
+    /// Puts the text in front of these bytes, which is one of variables, into the pair.
+    fn store<P: Plant>(
+        &mut self,
+        plant: &mut P,
+        text: [u8; 8192],
+        length: usize,
+    ) -> Result<(), VarFault>
+        requires fits { FitsVars (P.view plant.old) self.old }
+        requires synced { (P.view plant.old).tells → IsSynced (P.view plant.old) Flash }
+        requires vars { AreVars length (take length text) }
+        ensures answer { IsAnswer (put_refusal self.old.pair.number) result }
+        ensures refused { IsSome (put_refusal self.old.pair.number) → plant.new ≡ plant.old }
+        ensures kept { OnErr result (self.new ≡ self.old) }
+        ensures set { OnOk result (self.new ≡ changed self.old (take length text)) }
+        ensures durable { OnOk result (IsDurable (P.view plant.new) self.new) }
+        ensures changes { Changes self.old (take length text) (P.view plant.old) (P.view plant.new) }
+        ensures cause { HasCauseOr var_faults.Fault (P.view plant.old).faults (P.view plant.new).faults result }
+    {
+        self.pair.put(plant, &text[..length])?;
+        self.text = text;
+        self.length = length;
+        Ok(())
     }
 }
