@@ -4,4 +4,5 @@ pub mod Outcomes
 pub mod BoardLemmas
 pub mod FieldsLemmas
 pub mod ChangeLemmas
+pub mod ChangeVariableLemmas
 pub mod Printing

@@ -25,6 +25,7 @@ abbrev pub IsRefusedChange : ℕ → List ℕ → List Field → RefusedKind →
 IsRefusedChange code text fields refusals.BadCode = code ≡ 0xfe
 IsRefusedChange code text fields refusals.BadValue = (code ≢ 0xfe) × ((value : List ℕ) → ¬ Spells code value text)
 IsRefusedChange code text fields refusals.TooLong = (changed : List Field) × Changes code text fields changed × (2048 < length (spelling changed))
+IsRefusedChange code text fields kind = ⊥
 
 -- the change can be stored: it makes these fields of them
 pub record IsStorable (code : ℕ) (text : List ℕ) (fields changed : List Field) : Type 0 where

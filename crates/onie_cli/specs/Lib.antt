@@ -2,6 +2,7 @@ pub mod Status
 pub mod Words
 pub mod Refusal
 pub mod Board
+pub mod ChangeVariable
 pub mod Local
 pub mod Line
 pub mod Console

@@ -32,6 +32,10 @@ ident_line_of idents.NoMac = codes "onie: eeprom: no mac\n"
 
 -- the line for a change that is refused
 abbrev pub refused_line_of : RefusedKind → List ℕ
+refused_line_of refusals.BadName = codes "onie: refused: bad name\n"
+refused_line_of refusals.BadText = codes "onie: refused: bad text\n"
+refused_line_of refusals.VarsFull = codes "onie: refused: variables full\n"
+refused_line_of refusals.SeqEnd = codes "onie: refused: sequence end\n"
 refused_line_of refusals.BadCode = codes "onie: refused: bad code\n"
 refused_line_of refusals.BadValue = codes "onie: refused: bad value\n"
 refused_line_of refusals.TooLong = codes "onie: refused: too long\n"

@@ -15,6 +15,10 @@ pub(crate) enum Command<'a> {
     Eeprom,
     /// `eeprom set CODE TEXT`: change one field.
     EepromSet { code: u8, text: &'a [u8] },
+    /// `set NAME VALUE`: give a boot variable a value.
+    Set { name: &'a [u8], value: &'a [u8] },
+    /// `unset NAME`: take out a boot variable.
+    Unset { name: &'a [u8] },
 }
 
 /// The code that `0x` and two hexadecimal digits write, in either case.
@@ -41,6 +45,21 @@ pub(crate) fn read_words(words: &[String]) -> Option<Command<'_>>
             "eeprom" => Some(Command::Eeprom),
             _ => None,
         },
+        [first, name] => {
+            if first.as_str() != "unset" {
+                return None;
+            }
+            let name = name.as_bytes();
+            Some(Command::Unset { name })
+        }
+        [first, name, value] => {
+            if first.as_str() != "set" {
+                return None;
+            }
+            let name = name.as_bytes();
+            let value = value.as_bytes();
+            Some(Command::Set { name, value })
+        }
         [first, second, code, text] => {
             if first.as_str() != "eeprom" || second.as_str() != "set" {
                 return None;

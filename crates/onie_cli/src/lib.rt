@@ -14,6 +14,7 @@ mod line;
 mod loading;
 mod local;
 mod refusal;
+mod setting;
 mod showing;
 mod status;
 mod top;
@@ -22,6 +23,8 @@ pub use soundness::SoundKind;
 pub use status::{EepromKind, Outcome, RefusedKind, Status};
 pub use top::onie;
 
+#[cfg(test)]
+mod set_tests;
 #[cfg(test)]
 mod status_tests;
 #[cfg(test)]

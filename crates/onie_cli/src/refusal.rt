@@ -53,6 +53,10 @@ fn refused_line(kind: RefusedKind) -> &'static [u8]
     ensures { result.now ≡ refused_line_of kind }
 {
     match kind {
+        RefusedKind::BadName => b"onie: refused: bad name\n",
+        RefusedKind::BadText => b"onie: refused: bad text\n",
+        RefusedKind::VarsFull => b"onie: refused: variables full\n",
+        RefusedKind::SeqEnd => b"onie: refused: sequence end\n",
         RefusedKind::BadCode => b"onie: refused: bad code\n",
         RefusedKind::BadValue => b"onie: refused: bad value\n",
         RefusedKind::TooLong => b"onie: refused: too long\n",

@@ -30,6 +30,14 @@ pub enum EepromKind {
 /// Why a change was refused.
 #[derive(Clone, Copy, Debug, PartialEq, Eq)]
 pub enum RefusedKind {
+    /// The name is not 1 to 64 letters, digits or `_`.
+    BadName,
+    /// The value is not printable ASCII.
+    BadText,
+    /// The text of the variables would pass 8,180 bytes.
+    VarsFull,
+    /// No number is left for a put of the variables.
+    SeqEnd,
     /// The code is that of the checksum, which is computed.
     BadCode,
     /// The text spells no value of the code.

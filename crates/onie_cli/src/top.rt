@@ -9,6 +9,7 @@ ghost use Rattle.plant_runs.specs.Runs.{Looks};
 ghost use Rattle.tlvinfo.specs.Identity.{Board};
 ghost use Rattle.tlvinfo.specs.TlvInfo.{Field, Tlv};
 ghost use Rattle.onie_cli.specs.Board.{HoldsBoard, IsRefused, IsAfterBoard, IsAfterRefusal};
+ghost use Rattle.onie_cli.specs.ChangeVariable.{ChangesVariable, set_change, unset_change};
 ghost use Rattle.onie_cli.specs.Console.{ComesSoFar, Prints};
 ghost use Rattle.onie_cli.specs.Discover.{Discovers, IsDiscoverText, PrintsBoard};
 ghost use Rattle.onie_cli.specs.Eeprom.{IsAfterFields, IsFieldsText, PrintsEeprom, PrintsFields};
@@ -17,7 +18,7 @@ ghost use Rattle.onie_cli.specs.Fields.{RefusesUnreadable};
 ghost use Rattle.onie_cli.specs.Refusal.{refusal_line_of};
 ghost use Rattle.onie_cli.specs.ShowStatus.{ShowsStatus};
 ghost use Rattle.onie_cli.specs.Status.{IsBeforeRun};
-ghost use Rattle.onie_cli.specs.Words.{IsDiscover, IsEeprom, IsEepromSet, IsStatus, IsUsage};
+ghost use Rattle.onie_cli.specs.Words.{ChangesNoVariable, IsDiscover, IsEeprom, IsEepromSet, IsSet, IsStatus, IsUnset, IsUsage};
 
 use crate::board::load_identity;
 use crate::change::set_field;
@@ -26,6 +27,7 @@ use crate::discovery::{Stop, print_candidates};
 use crate::fields::print_fields;
 use crate::loading::load_info;
 use crate::refusal::report;
+use crate::setting::{set_variable, unset_variable};
 use crate::showing::show_status;
 use crate::status::{EepromKind, Outcome, Status};
 use bd_dev::{Eeprom, Media, Plant, Sink};
@@ -98,7 +100,7 @@ fn print_eeprom<E: Eeprom, C: Sink>(alloc: Global, eeprom: &mut E, console: &mut
 /// `discover` alone lists the candidates on local media for installing
 /// on the board that the EEPROM identifies, a line each, with what each is found to be. `eeprom` alone prints the
 /// fields of the EEPROM, a line each, and `eeprom set CODE TEXT` sets the field of the code to the value that the text
-/// spells and stores the fields. Other words are no command. A refusal writes its line on the console.
+/// spells and stores the fields. `set NAME VALUE` gives a boot variable a value, `unset NAME` takes one out. Other words are no command. A refusal writes its line on the console.
 pub fn onie<P: Plant, E: Eeprom, M: Media, C: Sink>(
     alloc: Global,
     words: &[String],
@@ -127,12 +129,16 @@ pub fn onie<P: Plant, E: Eeprom, M: Media, C: Sink>(
     // Without a fault of its own, the EEPROM is as it was, but where the call stored in it.
     ensures kept { result ≢ Status.Done Outcome.Stored → ¬ Rose (E.faults eeprom.old) (E.faults eeprom.new) → E.content eeprom.new ≡ E.content eeprom.old }
 
-    // No command writes the plant or syncs it, at any moment, and none but `status` calls it.
-    ensures looks { Looks (P.view plant.old) (P.view plant.new) }
-    ensures plant_unused { ¬ IsStatus (map string_bytes words.now) → plant.new ≡ plant.old }
+    // No command but `set` and `unset` writes the plant or syncs it, at any moment, and none but these and `status` calls
+    // it.
+    ensures looks { ChangesNoVariable (map string_bytes words.now) → Looks (P.view plant.old) (P.view plant.new) }
+    ensures plant_unused { ¬ IsStatus (map string_bytes words.now) → ChangesNoVariable (map string_bytes words.now) → plant.new ≡ plant.old }
 
-    // No command but `eeprom set` stores in the EEPROM, `status` never calls it, and none but `discover` calls the media.
+    // No command but `eeprom set` stores in the EEPROM, `status`, `set` and `unset` never call it, and none but `discover`
+    // calls the media.
     ensures eeprom_unused { IsStatus (map string_bytes words.now) → eeprom.new ≡ eeprom.old }
+    ensures eeprom_unused_by_set { (name value : List ℕ) → IsSet (map string_bytes words.now) name value → eeprom.new ≡ eeprom.old }
+    ensures eeprom_unused_by_unset { (name : List ℕ) → IsUnset (map string_bytes words.now) name → eeprom.new ≡ eeprom.old }
     ensures kept_by_others { ((code : ℕ) (text : List ℕ) → ¬ IsEepromSet (map string_bytes words.now) code text) → E.content eeprom.new ≡ E.content eeprom.old }
     ensures media_unused { ¬ IsDiscover (map string_bytes words.now) → media.new ≡ media.old }
 
@@ -142,12 +148,18 @@ pub fn onie<P: Plant, E: Eeprom, M: Media, C: Sink>(
     ensures eeprom { IsEeprom (map string_bytes words.now) → PrintsEeprom (E.content eeprom.old) result (C.taken console.old) (C.taken console.new) }
     ensures eeprom_set { (code : ℕ) (text : List ℕ) → IsEepromSet (map string_bytes words.now) code text
         → SetsField code text (E.content eeprom.old) (E.content eeprom.new) result (C.taken console.old) (C.taken console.new) }
+    ensures set { (name value : List ℕ) → IsSet (map string_bytes words.now) name value
+        → ChangesVariable (set_change (record { name = name; value = value })) (P.view plant.old) (P.view plant.new) result (C.taken console.old) (C.taken console.new) }
+    ensures unset { (name : List ℕ) → IsUnset (map string_bytes words.now) name
+        → ChangesVariable (unset_change name) (P.view plant.old) (P.view plant.new) result (C.taken console.old) (C.taken console.new) }
 {
     let status = match read_words(words) {
         Some(Command::Status) => show_status(plant, console),
         Some(Command::Discover) => discover(alloc, eeprom, media, console),
         Some(Command::Eeprom) => print_eeprom(alloc, eeprom, console),
         Some(Command::EepromSet { code, text }) => set_field(alloc, eeprom, code, text),
+        Some(Command::Set { name, value }) => set_variable(plant, name, value),
+        Some(Command::Unset { name }) => unset_variable(plant, name),
         None => Status::Usage,
     };
     report(console, status)

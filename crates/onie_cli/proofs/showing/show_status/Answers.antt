@@ -1,11 +1,9 @@
-use Rattle.std.proofs.Common.{◌≡◌, ℕ, List, Err, ap, ◌∙◌, sym, subst}
-use Rattle.bd_dev.specs.Plant.{View}
+use Rattle.std.proofs.Common.{Err, ap, ◌∙◌, sym, subst}
 use Rattle.bd_dev.specs.Sink.{Appends, AppendsFront}
-use Rattle.soundness.specs.Booting.{IsBoot}
 use Rattle.soundness.proofs.Verdicts.{sound_not_unsound}
 use Rattle.storage_model.specs.Disk.{Found}
 use Rattle.storage_model.specs.Slots.{Stored}
-use Rattle.onie_cli.specs.ShowStatus.{Holds, IsStatusText, text_for}
+use Rattle.onie_cli.specs.ShowStatus.{Holds}
 use Rattle.onie_cli.proofs.showing.show_status.Goals as goal
 
 pub returns-in-Err-NotSound-clause-sound : goal.returns-in-Err-NotSound-clause-sound

@@ -3,15 +3,17 @@ use Rattle.plant_runs.proofs.Joins.{looks_now}
 use Rattle.onie_cli.specs.declared.status.Outcome.TheVariants as outcomes
 use Rattle.onie_cli.specs.declared.status.Status.TheVariants as statuses
 use Rattle.onie_cli.specs.Board.{IsAfterBoard, IsAfterRefusal}
+use Rattle.onie_cli.specs.ChangeVariable.{IsChangeAnswer, MakesChange, set_change, unset_change}
 use Rattle.onie_cli.specs.Console.{ComesSoFar}
 use Rattle.onie_cli.specs.Discover.{PrintsBoard}
 use Rattle.onie_cli.specs.Eeprom.{IsAfterFields, PrintsFields}
 use Rattle.onie_cli.specs.ShowStatus.{IsAfterSound, IsAfterUnsound, IsStatusAnswer, PrintsHeld}
 use Rattle.onie_cli.specs.EepromSet.{IsAfterRefusedChange, IsAfterStorable, StoresChange}
 use Rattle.onie_cli.proofs.Printing.{comes-nothing, done-same, prints, reported, reported-back, unreadable-reported}
-use Rattle.onie_cli.proofs.Words.{asked_discover, asked_eeprom, asked_set, asked_status}
+use Rattle.onie_cli.proofs.ChangeVariableLemmas.{makes_reported}
+use Rattle.onie_cli.proofs.Words.{asked_discover, asked_eeprom, asked_set, asked_set_variable, asked_status, asked_unset_variable}
 use Rattle.onie_cli.proofs.top.onie.Goals as goal
-use Rattle.onie_cli.proofs.top.onie.Goals.{in-Some-Status, in-Some-Discover, in-Some-Eeprom, in-Some-EepromSet, in-None}
+use Rattle.onie_cli.proofs.top.onie.Goals.{in-Some-Status, in-Some-Discover, in-Some-Eeprom, in-Some-EepromSet, in-Some-Set, in-Some-Unset, in-None}
 
 pub returns-clause-usage : goal.returns-clause-usage
 returns-clause-usage g c = λ e. elim c.match-read_words.branch [
@@ -27,6 +29,12 @@ returns-clause-usage g c = λ e. elim c.match-read_words.branch [
   | in-Some-EepromSet w ↦
       let answer : (c.report.result ≡ w.set_field-status.result) ⊎ (c.report.result ≡ statuses.SinkFault) = rw (← w.status-is) c.report.ensures.answer in
       absurd (w.set_field-status.ensures.no_usage (reported-back w.set_field-status.result c.report.result statuses.Usage (λ f. cc) answer e))
+  | in-Some-Set w ↦
+      let answer : (c.report.result ≡ w.set_variable-status.result) ⊎ (c.report.result ≡ statuses.SinkFault) = rw (← w.status-is) c.report.ensures.answer in
+      absurd (subst IsChangeAnswer (reported-back w.set_variable-status.result c.report.result statuses.Usage (λ f. cc) answer e) w.set_variable-status.ensures.makes.answer)
+  | in-Some-Unset w ↦
+      let answer : (c.report.result ≡ w.unset_variable-status.result) ⊎ (c.report.result ≡ statuses.SinkFault) = rw (← w.status-is) c.report.ensures.answer in
+      absurd (subst IsChangeAnswer (reported-back w.unset_variable-status.result c.report.result statuses.Usage (λ f. cc) answer e) w.unset_variable-status.ensures.makes.answer)
   | in-None w ↦ w.in-None.ensures
 ]
 
@@ -38,6 +46,8 @@ returns-clause-kept g c = λ no_store no_fault. elim c.match-read_words.branch [
   | in-Some-EepromSet w ↦ rw w.eeprom-is (w.set_field-status.ensures.kept
       (λ e. no_store (c.report.ensures.silent (rw (w.status-is, e) refl) ∙ w.status-is ∙ e))
       (λ e. no_fault (rw w.eeprom-is (w.set_field-status.ensures.fault e))))
+  | in-Some-Set w ↦ rw w.eeprom-is refl
+  | in-Some-Unset w ↦ rw w.eeprom-is refl
   | in-None w ↦ rw w.eeprom-is refl
 ]
 
@@ -47,6 +57,8 @@ returns-clause-kept_by_others g c = λ no_set. elim c.match-read_words.branch [
   | in-Some-Discover w ↦ rw w.eeprom-is w.discover-status.ensures.kept
   | in-Some-Eeprom w ↦ rw w.eeprom-is w.print_eeprom-status.ensures.kept
   | in-Some-EepromSet w ↦ absurd (no_set w.in-Some-EepromSet.code w.in-Some-EepromSet.text.now (rw w.in-Some-EepromSet.field-0-is at w.in-Some-EepromSet.ensures))
+  | in-Some-Set w ↦ rw w.eeprom-is refl
+  | in-Some-Unset w ↦ rw w.eeprom-is refl
   | in-None w ↦ rw w.eeprom-is refl
 ]
 
@@ -56,15 +68,19 @@ returns-clause-media_unused g c = λ no_discover. elim c.match-read_words.branch
   | in-Some-Discover w ↦ absurd (no_discover (rw w.in-Some-Discover.field-0-is at w.in-Some-Discover.ensures))
   | in-Some-Eeprom w ↦ w.media-is
   | in-Some-EepromSet w ↦ w.media-is
+  | in-Some-Set w ↦ w.media-is
+  | in-Some-Unset w ↦ w.media-is
   | in-None w ↦ w.media-is
 ]
 
 pub returns-clause-plant_unused : goal.returns-clause-plant_unused
-returns-clause-plant_unused g c = λ no_status. elim c.match-read_words.branch [
+returns-clause-plant_unused g c = λ no_status no_change. elim c.match-read_words.branch [
   | in-Some-Status w ↦ absurd (no_status (rw w.in-Some-Status.field-0-is at w.in-Some-Status.ensures))
   | in-Some-Discover w ↦ w.plant-is
   | in-Some-Eeprom w ↦ w.plant-is
   | in-Some-EepromSet w ↦ w.plant-is
+  | in-Some-Set w ↦ absurd (no_change.no_set w.in-Some-Set.name.now w.in-Some-Set.value.now (rw w.in-Some-Set.field-0-is at w.in-Some-Set.ensures))
+  | in-Some-Unset w ↦ absurd (no_change.no_unset w.in-Some-Unset.name.now (rw w.in-Some-Unset.field-0-is at w.in-Some-Unset.ensures))
   | in-None w ↦ w.plant-is
 ]
 
@@ -74,17 +90,21 @@ returns-clause-eeprom_unused g c = λ words. elim c.match-read_words.branch [
   | in-Some-Discover w ↦ absurd (let e = sym w.in-Some-Discover.field-0-is ∙ asked_status _ w.in-Some-Discover.field-0 words w.in-Some-Discover.ensures in cc)
   | in-Some-Eeprom w ↦ absurd (let e = sym w.in-Some-Eeprom.field-0-is ∙ asked_status _ w.in-Some-Eeprom.field-0 words w.in-Some-Eeprom.ensures in cc)
   | in-Some-EepromSet w ↦ absurd (let e = sym w.in-Some-EepromSet.field-0-is ∙ asked_status _ w.in-Some-EepromSet.field-0 words w.in-Some-EepromSet.ensures in cc)
+  | in-Some-Set w ↦ w.eeprom-is
+  | in-Some-Unset w ↦ w.eeprom-is
   | in-None w ↦ absurd (w.in-None.ensures.no_status words)
 ]
 
 pub returns-clause-looks : goal.returns-clause-looks
-returns-clause-looks g c =
+returns-clause-looks g c = λ no_change.
     let here = looks_now (g.P.Plant.view c.args.plant.now) (g.met.P.Plant.honest c.args.plant.now) in
     elim c.match-read_words.branch [
       | in-Some-Status w ↦ rw w.plant-is w.show_status-status.ensures.looks
       | in-Some-Discover w ↦ rw w.plant-is here
       | in-Some-Eeprom w ↦ rw w.plant-is here
       | in-Some-EepromSet w ↦ rw w.plant-is here
+      | in-Some-Set w ↦ absurd (no_change.no_set w.in-Some-Set.name.now w.in-Some-Set.value.now (rw w.in-Some-Set.field-0-is at w.in-Some-Set.ensures))
+      | in-Some-Unset w ↦ absurd (no_change.no_unset w.in-Some-Unset.name.now (rw w.in-Some-Unset.field-0-is at w.in-Some-Unset.ensures))
       | in-None w ↦ rw w.plant-is here
     ]
 
@@ -109,6 +129,8 @@ returns-clause-status g c = λ words. elim c.match-read_words.branch [
   | in-Some-Discover w ↦ absurd (let e = sym w.in-Some-Discover.field-0-is ∙ asked_status _ w.in-Some-Discover.field-0 words w.in-Some-Discover.ensures in cc)
   | in-Some-Eeprom w ↦ absurd (let e = sym w.in-Some-Eeprom.field-0-is ∙ asked_status _ w.in-Some-Eeprom.field-0 words w.in-Some-Eeprom.ensures in cc)
   | in-Some-EepromSet w ↦ absurd (let e = sym w.in-Some-EepromSet.field-0-is ∙ asked_status _ w.in-Some-EepromSet.field-0 words w.in-Some-EepromSet.ensures in cc)
+  | in-Some-Set w ↦ absurd (let e = sym w.in-Some-Set.field-0-is ∙ asked_status _ w.in-Some-Set.field-0 words w.in-Some-Set.ensures in cc)
+  | in-Some-Unset w ↦ absurd (let e = sym w.in-Some-Unset.field-0-is ∙ asked_status _ w.in-Some-Unset.field-0 words w.in-Some-Unset.ensures in cc)
   | in-None w ↦ absurd (w.in-None.ensures.no_status words)
 ]
 
@@ -132,6 +154,8 @@ returns-clause-discover g c = λ words. elim c.match-read_words.branch [
       }
   | in-Some-Eeprom w ↦ absurd (let e = sym w.in-Some-Eeprom.field-0-is ∙ asked_discover _ w.in-Some-Eeprom.field-0 words w.in-Some-Eeprom.ensures in cc)
   | in-Some-EepromSet w ↦ absurd (let e = sym w.in-Some-EepromSet.field-0-is ∙ asked_discover _ w.in-Some-EepromSet.field-0 words w.in-Some-EepromSet.ensures in cc)
+  | in-Some-Set w ↦ absurd (let e = sym w.in-Some-Set.field-0-is ∙ asked_discover _ w.in-Some-Set.field-0 words w.in-Some-Set.ensures in cc)
+  | in-Some-Unset w ↦ absurd (let e = sym w.in-Some-Unset.field-0-is ∙ asked_discover _ w.in-Some-Unset.field-0 words w.in-Some-Unset.ensures in cc)
   | in-None w ↦ absurd (w.in-None.ensures.no_discover words)
 ]
 
@@ -154,6 +178,8 @@ returns-clause-eeprom g c = λ words. elim c.match-read_words.branch [
             prints text _ _ _ _ _ so_far c.report.ensures.answer c.report.ensures.written c.report.ensures.front;
       }
   | in-Some-EepromSet w ↦ absurd (let e = sym w.in-Some-EepromSet.field-0-is ∙ asked_eeprom _ w.in-Some-EepromSet.field-0 words w.in-Some-EepromSet.ensures in cc)
+  | in-Some-Set w ↦ absurd (let e = sym w.in-Some-Set.field-0-is ∙ asked_eeprom _ w.in-Some-Set.field-0 words w.in-Some-Set.ensures in cc)
+  | in-Some-Unset w ↦ absurd (let e = sym w.in-Some-Unset.field-0-is ∙ asked_eeprom _ w.in-Some-Unset.field-0 words w.in-Some-Unset.ensures in cc)
   | in-None w ↦ absurd (w.in-None.ensures.no_eeprom words)
 ]
 
@@ -182,5 +208,79 @@ returns-clause-eeprom_set g c = λ code text words. elim c.match-read_words.bran
             let so_far : ComesSoFar [] c.match-read_words.status (g.C.Sink.taken c.args.console.now) (g.C.Sink.taken c.match-read_words.console) = rw w.console-is (comes-nothing c.match-read_words.status (g.C.Sink.taken c.args.console.now)) in
             prints [] _ _ _ _ _ so_far c.report.ensures.answer c.report.ensures.written c.report.ensures.front;
       })
+  | in-Some-Set w ↦ absurd (let e = sym w.in-Some-Set.field-0-is ∙ (asked_set _ w.in-Some-Set.field-0 code text words w.in-Some-Set.ensures).1 in cc)
+  | in-Some-Unset w ↦ absurd (let e = sym w.in-Some-Unset.field-0-is ∙ (asked_set _ w.in-Some-Unset.field-0 code text words w.in-Some-Unset.ensures).1 in cc)
   | in-None w ↦ absurd (w.in-None.ensures.no_eeprom_set code text words)
+]
+
+pub returns-clause-set : goal.returns-clause-set
+returns-clause-set g c = λ name value words. elim c.match-read_words.branch [
+  | in-Some-Status w ↦ absurd (let e = sym w.in-Some-Status.field-0-is ∙ (asked_set_variable _ w.in-Some-Status.field-0 name value words w.in-Some-Status.ensures).is in cc)
+  | in-Some-Discover w ↦ absurd (let e = sym w.in-Some-Discover.field-0-is ∙ (asked_set_variable _ w.in-Some-Discover.field-0 name value words w.in-Some-Discover.ensures).is in cc)
+  | in-Some-Eeprom w ↦ absurd (let e = sym w.in-Some-Eeprom.field-0-is ∙ (asked_set_variable _ w.in-Some-Eeprom.field-0 name value words w.in-Some-Eeprom.ensures).is in cc)
+  | in-Some-EepromSet w ↦ absurd (let e = sym w.in-Some-EepromSet.field-0-is ∙ (asked_set_variable _ w.in-Some-EepromSet.field-0 name value words w.in-Some-EepromSet.ensures).is in cc)
+  | in-Some-Unset w ↦ absurd (let e = sym w.in-Some-Unset.field-0-is ∙ (asked_set_variable _ w.in-Some-Unset.field-0 name value words w.in-Some-Unset.ensures).is in cc)
+  | in-Some-Set w ↦
+      let d = w.set_variable-status.ensures in
+      let answer : (c.report.result ≡ w.set_variable-status.result) ⊎ (c.report.result ≡ statuses.SinkFault) = rw (← w.status-is) c.report.ensures.answer in
+      let asked = asked_set_variable _ w.in-Some-Set.field-0 name value words w.in-Some-Set.ensures in
+      let e = sym w.in-Some-Set.field-0-is ∙ asked.is in
+      let held_name : w.in-Some-Set.name ≡ asked.name_held = cc in
+      let held_value : w.in-Some-Set.value ≡ asked.value_held = cc in
+      let same_name : w.in-Some-Set.name.now ≡ name = ap (λ (t : Bor (List ℕ)). t.now) held_name ∙ asked.name_is in
+      let same_value : w.in-Some-Set.value.now ≡ value = ap (λ (t : Bor (List ℕ)). t.now) held_value ∙ asked.value_is in
+      rw (← same_name, ← same_value) (record {
+        makes = makes_reported (set_change (record { name = w.in-Some-Set.name.now; value = w.in-Some-Set.value.now })) _ _ w.set_variable-status.result c.report.result
+            (subst (λ (p : g.row.P.Denot). MakesChange (set_change (record { name = w.in-Some-Set.name.now; value = w.in-Some-Set.value.now })) (g.P.Plant.view c.args.plant.now) (g.P.Plant.view p) w.set_variable-status.result) (sym w.plant-is) d.makes) answer;
+        console =
+            let so_far : ComesSoFar [] c.match-read_words.status (g.C.Sink.taken c.args.console.now) (g.C.Sink.taken c.match-read_words.console) = rw w.console-is (comes-nothing c.match-read_words.status (g.C.Sink.taken c.args.console.now)) in
+            prints [] _ _ _ _ _ so_far c.report.ensures.answer c.report.ensures.written c.report.ensures.front;
+      })
+  | in-None w ↦ absurd (w.in-None.ensures.no_set name value words)
+]
+
+pub returns-clause-unset : goal.returns-clause-unset
+returns-clause-unset g c = λ name words. elim c.match-read_words.branch [
+  | in-Some-Status w ↦ absurd (let e = sym w.in-Some-Status.field-0-is ∙ (asked_unset_variable _ w.in-Some-Status.field-0 name words w.in-Some-Status.ensures).is in cc)
+  | in-Some-Discover w ↦ absurd (let e = sym w.in-Some-Discover.field-0-is ∙ (asked_unset_variable _ w.in-Some-Discover.field-0 name words w.in-Some-Discover.ensures).is in cc)
+  | in-Some-Eeprom w ↦ absurd (let e = sym w.in-Some-Eeprom.field-0-is ∙ (asked_unset_variable _ w.in-Some-Eeprom.field-0 name words w.in-Some-Eeprom.ensures).is in cc)
+  | in-Some-EepromSet w ↦ absurd (let e = sym w.in-Some-EepromSet.field-0-is ∙ (asked_unset_variable _ w.in-Some-EepromSet.field-0 name words w.in-Some-EepromSet.ensures).is in cc)
+  | in-Some-Set w ↦ absurd (let e = sym w.in-Some-Set.field-0-is ∙ (asked_unset_variable _ w.in-Some-Set.field-0 name words w.in-Some-Set.ensures).is in cc)
+  | in-Some-Unset w ↦
+      let d = w.unset_variable-status.ensures in
+      let answer : (c.report.result ≡ w.unset_variable-status.result) ⊎ (c.report.result ≡ statuses.SinkFault) = rw (← w.status-is) c.report.ensures.answer in
+      let asked = asked_unset_variable _ w.in-Some-Unset.field-0 name words w.in-Some-Unset.ensures in
+      let e = sym w.in-Some-Unset.field-0-is ∙ asked.is in
+      let held_name : w.in-Some-Unset.name ≡ asked.name_held = cc in
+      let same_name : w.in-Some-Unset.name.now ≡ name = ap (λ (t : Bor (List ℕ)). t.now) held_name ∙ asked.name_is in
+      rw (← same_name) (record {
+        makes = makes_reported (unset_change w.in-Some-Unset.name.now) _ _ w.unset_variable-status.result c.report.result
+            (subst (λ (p : g.row.P.Denot). MakesChange (unset_change w.in-Some-Unset.name.now) (g.P.Plant.view c.args.plant.now) (g.P.Plant.view p) w.unset_variable-status.result) (sym w.plant-is) d.makes) answer;
+        console =
+            let so_far : ComesSoFar [] c.match-read_words.status (g.C.Sink.taken c.args.console.now) (g.C.Sink.taken c.match-read_words.console) = rw w.console-is (comes-nothing c.match-read_words.status (g.C.Sink.taken c.args.console.now)) in
+            prints [] _ _ _ _ _ so_far c.report.ensures.answer c.report.ensures.written c.report.ensures.front;
+      })
+  | in-None w ↦ absurd (w.in-None.ensures.no_unset name words)
+]
+
+pub returns-clause-eeprom_unused_by_set : goal.returns-clause-eeprom_unused_by_set
+returns-clause-eeprom_unused_by_set g c = λ name value words. elim c.match-read_words.branch [
+  | in-Some-Status w ↦ w.eeprom-is
+  | in-Some-Discover w ↦ absurd (let e = sym w.in-Some-Discover.field-0-is ∙ (asked_set_variable _ w.in-Some-Discover.field-0 name value words w.in-Some-Discover.ensures).is in cc)
+  | in-Some-Eeprom w ↦ absurd (let e = sym w.in-Some-Eeprom.field-0-is ∙ (asked_set_variable _ w.in-Some-Eeprom.field-0 name value words w.in-Some-Eeprom.ensures).is in cc)
+  | in-Some-EepromSet w ↦ absurd (let e = sym w.in-Some-EepromSet.field-0-is ∙ (asked_set_variable _ w.in-Some-EepromSet.field-0 name value words w.in-Some-EepromSet.ensures).is in cc)
+  | in-Some-Set w ↦ w.eeprom-is
+  | in-Some-Unset w ↦ w.eeprom-is
+  | in-None w ↦ absurd (w.in-None.ensures.no_set name value words)
+]
+
+pub returns-clause-eeprom_unused_by_unset : goal.returns-clause-eeprom_unused_by_unset
+returns-clause-eeprom_unused_by_unset g c = λ name words. elim c.match-read_words.branch [
+  | in-Some-Status w ↦ w.eeprom-is
+  | in-Some-Discover w ↦ absurd (let e = sym w.in-Some-Discover.field-0-is ∙ (asked_unset_variable _ w.in-Some-Discover.field-0 name words w.in-Some-Discover.ensures).is in cc)
+  | in-Some-Eeprom w ↦ absurd (let e = sym w.in-Some-Eeprom.field-0-is ∙ (asked_unset_variable _ w.in-Some-Eeprom.field-0 name words w.in-Some-Eeprom.ensures).is in cc)
+  | in-Some-EepromSet w ↦ absurd (let e = sym w.in-Some-EepromSet.field-0-is ∙ (asked_unset_variable _ w.in-Some-EepromSet.field-0 name words w.in-Some-EepromSet.ensures).is in cc)
+  | in-Some-Set w ↦ w.eeprom-is
+  | in-Some-Unset w ↦ w.eeprom-is
+  | in-None w ↦ absurd (w.in-None.ensures.no_unset name words)
 ]
