@@ -1,0 +1,3 @@
+mod Waiting
+mod Finds
+pub mod Cutting
