@@ -7,14 +7,18 @@
 
 mod eeprom;
 mod faults;
+mod file_sink;
 mod media;
 mod paths;
 mod plant;
 mod sink;
+mod source;
 #[cfg(test)]
 mod tests;
 
 pub use eeprom::FileEeprom;
+pub use file_sink::FileSink;
 pub use media::FolderMedia;
 pub use plant::FilePlant;
 pub use sink::OutSink;
+pub use source::FileSource;

@@ -1,6 +1,7 @@
 use super::*;
-use bd_dev::{Area, Failed, Plant};
+use bd_dev::{Area, Failed, Plant, Sink, Source};
 use std::fs::{self, OpenFile};
+use std::io::Write;
 use std::test::Fail;
 
 // The first and the last byte of a sector. None where there is no such sector.
@@ -63,6 +64,38 @@ fn plant_keeps_a_file_short(rt: HostRuntime) -> Result<(), Fail> {
     assert_eq!(rt; ends(&mut plant, Area::Flash, 1), Err(Failed));
     assert_eq!(rt; put(&mut plant, Area::Flash, 1, 7), Err(Failed));
     assert_eq!(rt; fs::metadata(&rt, path)?.len(), 1000);
+    fs::remove_file(&rt, path)?;
+    Ok(())
+}
+
+#[test]
+fn a_file_is_read_from_its_start(rt: HostRuntime) -> Result<(), Fail> {
+    let path = "bd_file_source.txt";
+    fs::create(&rt, path)?.write_all(b"iface eth0\n")?;
+    let mut source = FileSource::new(&rt, path);
+    let mut piece = [0; 8];
+    let wants: [&[u8]; 3] = [b"iface et", b"h0\n", b""];
+    for want in wants {
+        let count = source.read(&mut piece)?;
+        assert!(rt; count <= 8);
+        assert_eq!(rt; &piece[..count.min(8)], want);
+    }
+    fs::remove_file(&rt, path)?;
+    assert_eq!(rt; source.read(&mut piece), Err(Failed));
+    Ok(())
+}
+
+#[test]
+fn a_file_takes_bytes_at_its_end(rt: HostRuntime) -> Result<(), Fail> {
+    let path = "bd_file_sink.txt";
+    let mut sink = FileSink::new(&rt, path);
+    assert_eq!(rt; sink.write(b"x"), Err(Failed));
+    sink.clear();
+    assert_eq!(rt; sink.write(b"1 0 a"), Ok(5));
+    assert_eq!(rt; sink.write(b"\n"), Ok(1));
+    assert_eq!(rt; fs::metadata(&rt, path)?.len(), 6);
+    sink.clear();
+    assert_eq!(rt; fs::metadata(&rt, path)?.len(), 0);
     fs::remove_file(&rt, path)?;
     Ok(())
 }

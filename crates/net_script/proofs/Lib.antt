@@ -1,0 +1,7 @@
+mod Decimals
+mod LineSteps
+mod OneFault
+mod Parting
+mod Splitting
+mod Stars
+mod Yields
