@@ -139,8 +139,8 @@ fn put_copy(
 }
 
 /// A disk with both copies of the table, and an image of one byte in ONIE's partition.
-fn disk(table: TableBytes) -> [u8; DISK] {
-    let mut disk = [0; DISK];
+fn disk(alloc: Global, table: TableBytes) -> Result<Vec<u8>, Fail> {
+    let mut disk = [0; 512].as_slice().repeat(alloc, DISK / 512)?;
     let (primary, backup) = (table.primary, table.backup);
     put_copy(&mut disk, 512, 1024, PRIMARY, primary.as_slice(), table);
     put_copy(
@@ -153,12 +153,12 @@ fn disk(table: TableBytes) -> [u8; DISK] {
     );
     put(&mut disk, 40 * 512, b"ONIEIMG1\x01\0\0\0");
     put(&mut disk, 41 * 512, b"\x01");
-    disk
+    Ok(disk)
 }
 
 /// A flash whose slot 0 has this text as number 1.
-fn flash(text: &[u8]) -> [u8; FLASH] {
-    let mut flash = [0; FLASH];
+fn flash(alloc: Global, text: &[u8]) -> Result<Vec<u8>, Fail> {
+    let mut flash = [0; 512].as_slice().repeat(alloc, FLASH / 512)?;
     put(&mut flash, 0, b"ONIEOPEN");
     put(
         &mut flash,
@@ -166,7 +166,15 @@ fn flash(text: &[u8]) -> [u8; FLASH] {
         &[1, 0, 0, 0, 0, 0, 0, 0, text.len().min(255) as u8, 0, 0, 0],
     );
     put(&mut flash, 524, text);
-    flash
+    Ok(flash)
+}
+
+/// A plant whose areas hold these bytes, whose call of the number fails.
+fn plant(alloc: Global, disk: &[u8], flash: &[u8], fails: u64) -> Result<SimPlant, Fail> {
+    if disk.len() > DISK || disk.len() % 512 != 0 || flash.len() > FLASH || flash.len() % 512 != 0 {
+        return Err(Fail::new("a size"));
+    }
+    Ok(SimPlant::new(alloc, disk, flash, &[fails])?)
 }
 
 const INSTALL: &[u8] = b"onie_boot_reason=install\0";
@@ -195,12 +203,12 @@ fn status(
 /// Whether `status` answers this and prints these parts.
 fn says(
     rt: &(impl Abort + AllocGlobal),
-    disk: &[u8; DISK],
-    flash: &[u8; FLASH],
+    disk: &[u8],
+    flash: &[u8],
     want: Status,
     parts: [&str; 4],
 ) -> Result<(), Fail> {
-    let mut plant = SimPlant::new(rt.alloc(), disk, flash, &[])?;
+    let mut plant = plant(rt.alloc(), disk, flash, 0)?;
     let (status, console) = status(rt.alloc(), &mut plant, 0)?;
     assert_eq!(rt; status, want);
     let mut text = String::new(rt.alloc());
@@ -216,11 +224,12 @@ const PRINTED: Status = Status::Done(Outcome::Printed);
 #[test]
 fn shows_the_table_and_the_mode(rt: HostRuntime) -> Result<(), Fail> {
     let text = ["table primary\n", ENTRY_1, "boots onie install\n", ""];
-    says(&rt, &disk(SOUND), &flash(INSTALL), PRINTED, text)?;
-    let mut broken = disk(SOUND);
-    broken[512] = 0;
+    let mut disk = disk(rt.alloc(), SOUND)?;
+    let flash = flash(rt.alloc(), INSTALL)?;
+    says(&rt, &disk, &flash, PRINTED, text)?;
+    put(&mut disk, 512, b"\0");
     let text = ["table backup\n", ENTRY_1, "boots onie install\n", ""];
-    says(&rt, &broken, &flash(INSTALL), PRINTED, text)
+    says(&rt, &disk, &flash, PRINTED, text)
 }
 
 /// Variables, and the line of what boots.
@@ -251,11 +260,13 @@ fn shows_what_boots(rt: HostRuntime) -> Result<(), Fail> {
             "boots onie embed\n",
         ),
     ];
+    let disk = disk(rt.alloc(), WITH_NOS)?;
     for (text, boots) in table {
+        let flash = flash(rt.alloc(), text)?;
         says(
             &rt,
-            &disk(WITH_NOS),
-            &flash(text),
+            &disk,
+            &flash,
             PRINTED,
             ["table primary\n", ENTRY_1, ENTRY_2, boots],
         )?;
@@ -273,11 +284,13 @@ fn refuses_wrong_entries(rt: HostRuntime) -> Result<(), Fail> {
         (NO_ONIE, SoundKind::NoOnie, "no onie\n"),
         (TWO_ONIE, SoundKind::TwoOnie, "two onie\n"),
     ];
+    let flash = flash(rt.alloc(), INSTALL)?;
     for (bytes, kind, line) in table {
+        let disk = disk(rt.alloc(), bytes)?;
         says(
             &rt,
-            &disk(bytes),
-            &flash(INSTALL),
+            &disk,
+            &flash,
             Status::NotSound(kind),
             ["onie: not sound: ", line, "", ""],
         )?;
@@ -303,7 +316,8 @@ fn refuses_what_is_missing(rt: HostRuntime) -> Result<(), Fail> {
         (DISK, DISK, 540, SoundKind::NoVars, "no variables\n"),
     ];
     for (first, second, third, kind, line) in table {
-        let (mut disk, mut flash) = (disk(SOUND), flash(INSTALL));
+        let mut disk = disk(rt.alloc(), SOUND)?;
+        let mut flash = flash(rt.alloc(), INSTALL)?;
         put(&mut disk, first, b"\0");
         put(&mut disk, second, b"\0");
         put(&mut flash, third, b"\0");
@@ -320,9 +334,12 @@ fn refuses_what_is_missing(rt: HostRuntime) -> Result<(), Fail> {
 
 #[test]
 fn a_disk_of_67_sectors_has_no_table(rt: HostRuntime) -> Result<(), Fail> {
-    let (disk, flash) = (disk(SOUND), flash(INSTALL));
-    let (small, _) = disk.split_at(67 * 512);
-    let mut plant = SimPlant::new(rt.alloc(), small, &flash, &[])?;
+    let disk = disk(rt.alloc(), SOUND)?;
+    let flash = flash(rt.alloc(), INSTALL)?;
+    let Some(small) = disk.get(..67 * 512) else {
+        return Err(Fail::new("no disk"));
+    };
+    let mut plant = plant(rt.alloc(), small, &flash, 0)?;
     let (status, console) = status(rt.alloc(), &mut plant, 0)?;
     assert_eq!(rt; status, Status::NotSound(SoundKind::NoTable));
     assert_eq!(rt;
@@ -335,14 +352,15 @@ fn a_disk_of_67_sectors_has_no_table(rt: HostRuntime) -> Result<(), Fail> {
 /// Each call of the plant fails in turn, up to the number of calls that are made.
 #[test]
 fn each_fault_of_the_plant_is_told(rt: HostRuntime) -> Result<(), Fail> {
-    let mut broken = disk(SOUND);
-    broken[512] = 0;
-    let mut whole = SimPlant::new(rt.alloc(), &broken, &flash(INSTALL), &[])?;
+    let mut broken = disk(rt.alloc(), SOUND)?;
+    put(&mut broken, 512, b"\0");
+    let flash = flash(rt.alloc(), INSTALL)?;
+    let mut whole = plant(rt.alloc(), &broken, &flash, 0)?;
     let (answer, _) = status(rt.alloc(), &mut whole, 0)?;
     assert_eq!(rt; answer, PRINTED);
     assert!(rt; whole.calls() > 3);
     for number in 1..=whole.calls() {
-        let mut plant = SimPlant::new(rt.alloc(), &broken, &flash(INSTALL), &[number])?;
+        let mut plant = plant(rt.alloc(), &broken, &flash, number)?;
         let (status, console) = status(rt.alloc(), &mut plant, 0)?;
         assert_eq!(rt; status, Status::PlantFault);
         assert_eq!(rt; console.as_slice(), b"onie: plant fault\n".as_slice());
@@ -354,12 +372,14 @@ fn each_fault_of_the_plant_is_told(rt: HostRuntime) -> Result<(), Fail> {
 /// The console fails at each of its calls in turn: it took what comes before.
 #[test]
 fn a_fault_of_the_console_ends_the_text(rt: HostRuntime) -> Result<(), Fail> {
+    let disk = disk(rt.alloc(), SOUND)?;
+    let flash = flash(rt.alloc(), INSTALL)?;
     for (number, want) in [
         (1, ""),
         (2, "table primary\n"),
         (3, "table primary\nentry "),
     ] {
-        let mut plant = SimPlant::new(rt.alloc(), &disk(SOUND), &flash(INSTALL), &[])?;
+        let mut plant = plant(rt.alloc(), &disk, &flash, 0)?;
         let (status, console) = status(rt.alloc(), &mut plant, number)?;
         assert_eq!(rt; status, Status::SinkFault);
         assert_eq!(rt; console.as_slice(), want.as_bytes());
