@@ -1,6 +1,6 @@
 //! Bytes, and lists of them, in memory.
 
-ghost use Rattle.std.specs.Prelude.{◌≡◌, ◌++◌, ◌∷◌, [], IfOk, OnOk, OnErr};
+ghost use Rattle.std.specs.Prelude.{◌≡◌, ◌≤◌, ◌++◌, ◌∷◌, [], length, IfOk, OnOk, OnErr};
 
 use std::alloc::{AllocError, AllocFailed, Global};
 use std::marker::Model;
@@ -61,6 +61,15 @@ impl Bytes {
     {
         self.items.extend_from_slice(bytes)?;
         Ok(())
+    }
+
+    /// Has these bytes in the place of all that stood here. They are not more than stood here, so it takes no memory.
+    pub fn refill(&mut self, bytes: &[u8])
+        requires { length bytes.now ≤ length self.old }
+        ensures { self.new ≡ bytes.now }
+    {
+        self.items.truncate(bytes.len());
+        self.items.copy_from_slice(bytes);
     }
 }
 
