@@ -1,0 +1,27 @@
+//! The law of cuts.
+
+ghost use Rattle.cuts.specs.Law.{CleanCutsAreCuts, LawOfCuts, LawOfStarts, SoundBoardsAreStarts};
+
+/// The law of cuts: from a sound state, with pending sectors in neither ONIE's entry nor the named one, at every cut
+/// of every lawful and orderly run of effects the image is sound, ONIE's partition reads as at the start, and the NOS
+/// that is named reads as in the state that the run has reached.
+pub fn law_of_cuts()
+    ensures { LawOfCuts }
+{}
+
+/// After each effect of such a run the state is again one from which the law holds.
+pub fn law_of_starts()
+    ensures { LawOfStarts }
+{}
+
+/// While the table is set a torn copy of it is excused only where the image is clean, and at every other moment both
+/// copies stand: an image of which that holds, and which is clean, is a cut.
+pub fn clean_cuts_are_cuts()
+    ensures { CleanCutsAreCuts }
+{}
+
+/// What a sound board holds is a state from which the law holds, with nothing pending. So the law holds anew after a
+/// power cut, however often power cuts come.
+pub fn sound_boards_are_starts()
+    ensures { SoundBoardsAreStarts }
+{}
