@@ -1,5 +1,9 @@
+mod CopyRuns
 mod Editing
 mod Finding
+mod Repairs
+mod Replacements
 mod Running
+mod Sameness
 mod Standing
 mod Taking

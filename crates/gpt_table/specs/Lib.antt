@@ -2,3 +2,4 @@ pub mod Together
 pub mod Edits
 pub mod Runs
 pub mod NewGuid
+pub mod Copies

@@ -1,15 +1,15 @@
 //! Reading the table.
 
-ghost use Rattle.std.specs.Prelude.{◌≡◌, ◌≤◌, ◌+◌, ◌-◌, ◌*◌, Some, None, Err, IfOk, IfSome};
+ghost use Rattle.std.specs.Prelude.{◌≡◌, ◌-◌, Some, None, Err, IfOk};
 ghost use Rattle.bd_dev.specs.declared.plant.Area.TheVariants.{Disk};
-ghost use Rattle.bd_dev.specs.Faults.{HasCause, HasCauseOr};
+ghost use Rattle.bd_dev.specs.Faults.{HasCauseOr};
 ghost use Rattle.gpt_copy.specs.Copy.{FitsDisk};
 ghost use Rattle.plant_runs.specs.Runs.{Looks};
-ghost use Rattle.storage_model.specs.Disk.{copy_lba, copy_of, found};
+ghost use Rattle.storage_model.specs.Disk.{found};
 
+use crate::copies::read_table;
 use bd_dev::{Area, Failed, Plant};
-use gpt_copy::{Table, Which, read_copy};
-use plant_runs::read_sectors;
+use gpt_copy::{Table, Which};
 use thiserror::Error;
 
 /// Why a disk's table was not read.
@@ -32,32 +32,6 @@ impl From<Failed> for GptFault {
     fn from(_: Failed) -> GptFault {
         GptFault::Fault
     }
-}
-
-/// The address of a copy's first sector.
-fn first_sector(which: Which, sectors: u64) -> u64
-    requires { 68 ≤ sectors }
-    ensures is { result ≡ copy_lba which sectors }
-    ensures room { result + 33 ≤ sectors }
-{
-    match which {
-        Which::Primary => 1,
-        Which::Backup => sectors - 33,
-    }
-}
-
-/// The table of one copy, or None where that is not readable.
-fn read_table<P: Plant>(plant: &mut P, which: Which, sectors: u64) -> Result<Option<Table>, Failed>
-    requires size { sectors ≡ (P.view plant.old).size Disk }
-    requires room { 68 ≤ sectors }
-    ensures read { (P.view plant.old).tells → IfOk result (λ r. r ≡ copy_of which sectors ((P.view plant.old).reads Disk)) }
-    ensures fits { IfOk result (λ r. IfSome r (FitsDisk (sectors - 1))) }
-    ensures looks { Looks (P.view plant.old) (P.view plant.new) }
-    ensures cause { HasCause (P.view plant.old).faults (P.view plant.new).faults result }
-{
-    let mut bytes = [0; 16896];
-    read_sectors(plant, Area::Disk, first_sector(which, sectors), &mut bytes)?;
-    Ok(read_copy(&bytes, which, sectors - 1))
 }
 
 /// The disk's table, and the copy that it was read from: the primary where that is readable, else the backup. It only

@@ -9,7 +9,7 @@ use gpt_copy::{Entry, Table};
 use std::process::Abort;
 
 /// 0FC63DAF-8483-4772-8E79-3D69D8477DE4.
-const DATA: Guid = Guid {
+pub(crate) const DATA: Guid = Guid {
     bytes: *b"\xaf=\xc6\x0f\x83\x84rG\x8ey=i\xd8G}\xe4",
 };
 
@@ -28,7 +28,7 @@ fn onie(rt: &impl Abort) -> Guid
 }
 
 /// 01234567-89AB-CDEF-0123-4567000000 and the byte.
-fn guid(last: u8) -> Guid {
+pub(crate) fn guid(last: u8) -> Guid {
     let mut guid = Guid {
         bytes: *b"gE#\x01\xab\x89\xef\xcd\x01#Eg\0\0\0\0",
     };
@@ -51,7 +51,7 @@ fn entry(rt: &impl Abort, first: u64, last: u64, number: u8) -> Entry
     entry
 }
 
-const ZERO: Entry = Entry {
+pub(crate) const ZERO: Entry = Entry {
     kind: Guid { bytes: [0; 16] },
     guid: Guid { bytes: [0; 16] },
     first: 0,
@@ -255,7 +255,7 @@ fn scanned(table: &Table, at: u64) -> (Option<(u64, u64)>, Option<(u64, u64)>) {
 #[test]
 fn runs_are_those_of_a_scan(rt: HostRuntime) {
     let mut seed = 1u64;
-    for _ in 0..100u64 {
+    for _ in 0..500u64 {
         let mut table = board(&rt);
         table.last_usable = 50;
         for place in 0..3usize {

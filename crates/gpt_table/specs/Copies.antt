@@ -1,0 +1,19 @@
+-- One of the two copies, written while the other stands.
+use Rattle.std.specs.Prelude.{◌≡◌, ℕ, Some}
+use Rattle.bd_dev.specs.Content.{Image}
+use Rattle.bd_dev.specs.declared.plant.Area.TheVariants.{Disk}
+use Rattle.gpt_copy.specs.declared.table.Table.{Table}
+use Rattle.gpt_copy.specs.declared.table.Which.{Which}
+use Rattle.gpt_copy.specs.declared.table.Which.TheVariants.{Primary, Backup}
+use Rattle.plant_runs.specs.Touching.{AgreesOutside}
+use Rattle.storage_model.specs.Disk.{copy_lba, copy_of}
+
+-- the other of the two
+abbrev pub other_copy : Which → Which
+other_copy Primary = Backup
+other_copy Backup = Primary
+
+-- this copy was written over z, and reads as the table
+pub record IsCopyWritten (which : Which) (size : ℕ) (table : Table) (z c : Image) : Type 0 where
+  pub outside : AgreesOutside Disk (copy_lba which size) 33 z c
+  pub inside : copy_of which size (c Disk) ≡ Some table
