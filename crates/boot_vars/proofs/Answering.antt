@@ -1,11 +1,12 @@
 -- Why a variable is not set, by its tests.
-use Rattle.std.proofs.Common.{◌≡◌, ℕ, ◌+◌, ◌-◌, ◌≤◌, ◌==◌, ◌^◌, List, length, Bool, true, false, not, nat_le, Option, Some, None, Ok, Err, is_none, OnOk, Result, refl, ◌∙◌, cond, ap, subst, arith}
-use Rattle.std.specs.Prelude.{IsSome}
+use Rattle.std.proofs.Common.{◌≡◌, ℕ, ◌+◌, ◌-◌, ◌≤◌, ◌==◌, ◌^◌, List, length, Bool, true, false, not, nat_le, Option, Some, None, Ok, Err, is_none, Result, refl, ◌∙◌, cond, ap, subst, arith}
+use Rattle.std.specs.Prelude.{IsErrAnd}
+use Rattle.std.specs.Result.{result_err}
 use Rattle.std.proofs.lemmas.Bool.{and_from, eqb-true, false_from_ne_true, leb-true}
 use Rattle.boot_vars.specs.Places.{IsPlace}
 use Rattle.boot_vars.specs.Setting.{answer, fit, put_refusal, set_refusal, unset_refusal, with_variable}
 use Rattle.boot_vars.specs.declared.fault.VarFault.{VarFault}
-use Rattle.boot_vars.specs.declared.fault.VarFault.TheVariants.{BadName, BadText, SeqEnd, VarsFull}
+use Rattle.boot_vars.specs.declared.fault.VarFault.TheVariants.{BadName, BadText, Fault, SeqEnd, VarsFull}
 use Rattle.boot_vars.proofs.Places.{within as within_text}
 use Rattle.boot_vars.proofs.Setting.{with_length}
 use Rattle.storage_model.specs.Variables.{Spells, Variable, is_name, is_value, is_variable, lines_of, value_among}
@@ -70,6 +71,22 @@ last_is number is = ap put_refusal is
 pub not_last_is : (number : ℕ) → (number ≡ 2 ^ 64 - 1 → ⊥) → put_refusal number ≡ None
 not_last_is number other = ap (λ (b : Bool). cond b (Some SeqEnd) None) (false_from_ne_true (number == 2 ^ 64 - 1) (λ same. other (eqb-true number (2 ^ 64 - 1) same)))
 
+pub put_never : (number : ℕ) → answer (put_refusal number) ≡ Err Fault → ⊥
+put_never number is = by_last (number == 2 ^ 64 - 1) is
+  where
+    by_last : (last : Bool) → answer (cond last (Some SeqEnd) None) ≡ Err Fault → ⊥
+    by_last true is = cc
+    by_last false is = cc
+
+pub err_of_answer : (refusal : Option VarFault) → result_err (answer refusal) ≡ refusal
+err_of_answer None = refl
+err_of_answer (Some reason) = refl
+
+-- an error that is handed on
+pub handed_on : {T : Type 0} (r : Result T VarFault) (why : VarFault) (refusal : Option VarFault) → IsErrAnd r (λ e. e ≡ why) → Err why ≡ answer refusal → result_err r ≡ refusal
+handed_on (Err e) why refusal same is = ap Some same ∙ ap result_err is ∙ err_of_answer refusal
+handed_on (Ok x) why refusal same is = absurd same
+
 -- an unset whose name is good
 pub unset_is : (vs : List Variable) (number : ℕ) (name : List ℕ) (none : Bool) → is_name name ≡ true → is_none (value_among vs name) ≡ none
     → unset_refusal vs number name ≡ cond none None (put_refusal number)
@@ -77,10 +94,7 @@ unset_is vs number name none good is =
     ap (λ (b : Bool). cond (not b) (Some BadName) (cond (is_none (value_among vs name)) None (put_refusal number))) good
     ∙ ap (λ (b : Bool). cond b None (put_refusal number)) is
 
-pub OnOk-map : {T E P Q : Type 0} (r : Result T E) → (P → Q) → OnOk r P → OnOk r Q
-OnOk-map (Ok x) f p = f p
-OnOk-map (Err e) f p = p
-
-pub some_none : {T : Type 0} (o : Option T) → IsSome o → is_none o ≡ true → ⊥
-some_none (Some x) some none = cc
-some_none None some none = cc
+-- nothing is refused
+pub none_refused : (refusal : Option VarFault) → Ok tt ≡ answer refusal → refusal ≡ None
+none_refused None is = refl
+none_refused (Some reason) is = absurd (cc)

@@ -1,6 +1,7 @@
 //! The boot variables.
 
-ghost use Rattle.std.specs.Prelude.{◌≡◌, ◌≢◌, ◌⊎◌, ◌≤◌, ℕ, List, length, Ok, Err, Some, None, IfOk, IfSome, IsSome, OnErr, OnOk, option_map, take};
+ghost use Rattle.std.specs.Prelude.{◌≡◌, ◌≢◌, ◌⊎◌, ◌≤◌, ℕ, List, length, Ok, Err, Some, None, IfOk, IfSome, IsSome, OnErr, OnOk, OnSome, is_none, option_map, take};
+ghost use Rattle.std.specs.Result.{result_err};
 ghost use Rattle.bd_dev.specs.declared.plant.Area.TheVariants.{Flash};
 ghost use Rattle.bd_dev.specs.Faults.{HasCauseOr};
 ghost use Rattle.bd_dev.specs.Plant.{IsSynced};
@@ -131,6 +132,64 @@ impl BootVars {
         if !has_room(text.len() - place.size, name, value) {
             return Err(VarFault::VarsFull);
         }
+        self.may_put()
+    }
+
+    /// The text with this variable: in the place of the line of its name, or in a line behind all others. It is the
+    /// front of `out`, of so many bytes.
+    ///
+    /// `BadName` where the name is not 1 to 64 letters, digits or `_`, else `BadText` where the value is not printable
+    /// ASCII, else `VarsFull` where the text would pass 8,180 bytes, else `SeqEnd` where no number is left for a put.
+    pub fn text_with(
+        &self,
+        name: &[u8],
+        value: &[u8],
+        out: &mut [u8; 8192],
+    ) -> Result<usize, VarFault>
+        ensures refusal { (vs : List Variable) → Spells self.now.text vs
+            → result_err result ≡ set_refusal vs self.now.pair.number (record { name = name.now; value = value.now }) }
+        ensures never { result ≢ Err var_faults.Fault }
+        ensures lines { (vs : List Variable) → Spells self.now.text vs → IfOk result
+            (λ size. take size out.new ≡ lines_of (with_variable vs (record { name = name.now; value = value.now }))) }
+        ensures vars { IfOk result (λ size. AreVars size (take size out.new)) }
+        ensures number { OnOk result (put_refusal self.now.pair.number ≡ None) }
+    {
+        self.may_set(name, value)?;
+        let place = place_of(self.text(), name);
+        Ok(write_with(self.text(), place, name, value, out))
+    }
+
+    /// The text without the variable of this name, as the front of `out`, of so many bytes: None where there is no such
+    /// variable.
+    ///
+    /// `BadName` where the name is not 1 to 64 letters, digits or `_`; `SeqEnd` where there is such a variable and no
+    /// number is left for a put.
+    pub fn text_without(&self, name: &[u8], out: &mut [u8; 8192]) -> Result<Option<usize>, VarFault>
+        ensures refusal { (vs : List Variable) → Spells self.now.text vs
+            → result_err result ≡ unset_refusal vs self.now.pair.number name.now }
+        ensures never { result ≢ Err var_faults.Fault }
+        ensures there { (vs : List Variable) → Spells self.now.text vs → IfOk result
+            (λ size. is_none size ≡ is_none (value_among vs name.now)) }
+        ensures lines { (vs : List Variable) → Spells self.now.text vs → IfOk result
+            (λ found. IfSome found (λ size. take size out.new ≡ lines_of (without vs name.now))) }
+        ensures vars { IfOk result (λ found. IfSome found (λ size. AreVars size (take size out.new))) }
+        ensures number { IfOk result (λ found. OnSome found (put_refusal self.now.pair.number ≡ None)) }
+    {
+        if !is_name(name) {
+            return Err(VarFault::BadName);
+        }
+        let place = place_of(self.text(), name);
+        if place.size == 0 {
+            return Ok(None);
+        }
+        self.may_put()?;
+        Ok(Some(write_without(self.text(), place, out)))
+    }
+
+    /// `SeqEnd` where no number is left for a put.
+    fn may_put(&self) -> Result<(), VarFault>
+        ensures { result ≡ answer (put_refusal self.now.pair.number) }
+    {
         if self.pair.is_last() {
             return Err(VarFault::SeqEnd);
         }
@@ -164,13 +223,9 @@ impl BootVars {
             → Changes self.old (lines_of (with_variable vs (record { name = name.now; value = value.now }))) (P.view plant.old) (P.view plant.new) }
         ensures cause { HasCauseOr var_faults.Fault (P.view plant.old).faults (P.view plant.new).faults result }
     {
-        if let Err(fault) = self.may_set(name, value) {
-            return Err(fault);
-        }
-        let place = place_of(self.text(), name);
         let mut text = [0; 8192];
-        let length = write_with(self.text(), place, name, value, &mut text);
-        self.store(plant, text, length)
+        let length = self.text_with(name, value, &mut text)?;
+        self.store(plant, &text, length)
     }
 
     /// Takes out the variable of this name. Where there is none, nothing is done. A crash at any moment leaves the
@@ -197,38 +252,38 @@ impl BootVars {
             → Changes self.old (lines_of (without vs name.now)) (P.view plant.old) (P.view plant.new) }
         ensures cause { HasCauseOr var_faults.Fault (P.view plant.old).faults (P.view plant.new).faults result }
     {
-        if !is_name(name) {
-            return Err(VarFault::BadName);
-        }
-        let place = place_of(self.text(), name);
-        if place.size == 0 {
-            return Ok(());
-        }
         let mut text = [0; 8192];
-        let length = write_without(self.text(), place, &mut text);
-        self.store(plant, text, length)
+        match self.text_without(name, &mut text)? {
+            Some(length) => self.store(plant, &text, length),
+            None => Ok(()),
+        }
     }
 
-    /// Puts the text in front of these bytes, which is one of variables, into the pair.
-    fn store<P: Plant>(
+    /// Puts the first `length` bytes, which are a text of variables, in the place of the text. A crash at any moment
+    /// leaves the text before or after it, and after Ok the one after it. The plant fits the variables, and nothing of
+    /// the flash is unsynced.
+    ///
+    /// `SeqEnd` where no number is left for a put: then no call was made. `Fault` where the plant fails: then these
+    /// variables may no longer fit the plant.
+    pub fn store<P: Plant>(
         &mut self,
         plant: &mut P,
-        text: [u8; 8192],
+        text: &[u8; 8192],
         length: usize,
     ) -> Result<(), VarFault>
         requires fits { FitsVars (P.view plant.old) self.old }
         requires synced { (P.view plant.old).tells → IsSynced (P.view plant.old) Flash }
-        requires vars { AreVars length (take length text) }
+        requires vars { AreVars length (take length text.now) }
         ensures answer { IsAnswer (put_refusal self.old.pair.number) result }
         ensures refused { IsSome (put_refusal self.old.pair.number) → plant.new ≡ plant.old }
         ensures kept { OnErr result (self.new ≡ self.old) }
-        ensures set { OnOk result (self.new ≡ changed self.old (take length text)) }
+        ensures set { OnOk result (self.new ≡ changed self.old (take length text.now)) }
         ensures durable { OnOk result (IsDurable (P.view plant.new) self.new) }
-        ensures changes { Changes self.old (take length text) (P.view plant.old) (P.view plant.new) }
+        ensures changes { Changes self.old (take length text.now) (P.view plant.old) (P.view plant.new) }
         ensures cause { HasCauseOr var_faults.Fault (P.view plant.old).faults (P.view plant.new).faults result }
     {
         self.pair.put(plant, &text[..length])?;
-        self.text = text;
+        self.text = *text;
         self.length = length;
         Ok(())
     }

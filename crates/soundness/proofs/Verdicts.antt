@@ -102,3 +102,8 @@ fault_before old new t k looks tells fault =
 pub found_before : (old new : View) (o : Option Found) → Looks old new → old.tells → found (new.size Disk) (new.reads Disk) ≡ o → found (old.size Disk) (old.reads Disk) ≡ o
 found_before old new o looks tells is =
     sym (ap (λ (size : ℕ). found size (new.reads Disk)) (looks.continues.size Disk) ∙ ap (λ (c : Image). found (old.size Disk) (c Disk)) (looks.told tells).only.reads) ∙ is
+
+-- and the table is as sound as it is afterwards
+pub sound_before : (old mid new : View) (t : Table) → Looks old mid → Looks mid new → old.tells → IsSoundTable (new.reads Disk) t → IsSoundTable (old.reads Disk) t
+sound_before old mid new t opened looked tells sound =
+    subst (λ (w : Image). IsSoundTable (w Disk) t) ((looked.told (opened.continues.still_tells tells)).only.reads ∙ (opened.told tells).only.reads) sound

@@ -26,6 +26,13 @@ IsOnieFault t kinds.TwoOnie = HasTwoOnie t
 IsOnieFault t kinds.NoImage = ⊥
 IsOnieFault t kinds.NoVars = ⊥
 
+-- a table has one entry of ONIE's type, which holds an image
+pub record HoldsOnie (disk : ℕ → ℕ) (t : Table) : Type 0 where
+  pub index : ℕ
+  pub onie : Entry
+  pub one : OnieEntry t index onie
+  pub image : IsTrue (has_image disk onie)
+
 -- the one entry of ONIE's type holds no image
 pub record HasNoImage (disk : ℕ → ℕ) (t : Table) : Type 0 where
   pub index : ℕ

@@ -1,13 +1,15 @@
 //! The tests of a board, in their order.
 
-ghost use Rattle.std.specs.Prelude.{◌≡◌, ◌⊎◌, ◌-◌, None, Some, Err, IfOk};
+ghost use Rattle.std.specs.Prelude.{◌≡◌, ◌⊎◌, ◌↔◌, ◌-◌, None, Some, Err, IfOk, IfSome, IsTrue};
 ghost use Rattle.bd_dev.specs.declared.plant.Area.TheVariants.{Disk, Flash};
 ghost use Rattle.bd_dev.specs.Faults.{HasCause, HasCauseOr};
+ghost use Rattle.boot_vars.specs.Vars.{FitsVars};
 ghost use Rattle.gpt_copy.specs.Copy.{FitsDisk};
 ghost use Rattle.plant_runs.specs.Runs.{Looks};
 ghost use Rattle.storage_model.specs.Disk.{found};
 ghost use Rattle.storage_model.specs.Soundness.{IsSoundTable};
-ghost use Rattle.soundness.specs.Judgement.{IsJudged, IsTableFault, IsUnsound, MayHold};
+ghost use Rattle.storage_model.specs.Entries.{IsSane};
+ghost use Rattle.soundness.specs.Judgement.{HoldsOnie, IsJudged, IsTableFault, IsUnsound, MayHold};
 
 use crate::image::holds_image;
 use crate::onie::onie_entry;
@@ -81,10 +83,14 @@ pub struct Sound {
     pub vars: BootVars,
 }
 
-/// Tests the entries of a disk's table, and ONIE's image.
-fn judge_table<P: Plant>(plant: &mut P, table: &Table) -> Result<(), JudgeFault>
+/// Tests the entries of a disk's table, and ONIE's image. It only reads.
+///
+/// `NotSound` with the first test that fails of `Entries`, `NoOnie`, `TwoOnie` and `NoImage`. `Fault` where the plant
+/// fails.
+pub fn judge_table<P: Plant>(plant: &mut P, table: &Table) -> Result<(), JudgeFault>
     requires { FitsDisk ((P.view plant.old).size Disk - 1) table.now }
     ensures sound { (P.view plant.old).tells → IfOk result (λ _. IsSoundTable ((P.view plant.old).reads Disk) table.now) }
+    ensures sane { IfOk result (λ _. IsSane table.now) }
     ensures unsound { (P.view plant.old).tells → (kind : SoundKind) → result ≡ Err (JudgeFault.NotSound kind) → IsTableFault (P.view plant.old).size (P.view plant.old).reads table.now kind }
     ensures looks { Looks (P.view plant.old) (P.view plant.new) }
     ensures cause { HasCauseOr JudgeFault.Fault (P.view plant.old).faults (P.view plant.new).faults result }
@@ -99,9 +105,25 @@ fn judge_table<P: Plant>(plant: &mut P, table: &Table) -> Result<(), JudgeFault>
     Ok(())
 }
 
-/// The variables, or None where there are none that can be read.
-fn open_vars<P: Plant>(plant: &mut P) -> Result<Option<BootVars>, Failed>
+/// Whether a table has exactly one entry of ONIE's type, and that one holds an image. It only reads. `Failed` where the
+/// plant fails.
+pub fn has_onie_image<P: Plant>(plant: &mut P, table: &Table) -> Result<bool, Failed>
+    requires fits { FitsDisk ((P.view plant.old).size Disk - 1) table.now }
+    requires sane { IsSane table.now }
+    ensures judged { (P.view plant.old).tells → IfOk result (λ r. IsTrue r ↔ HoldsOnie ((P.view plant.old).reads Disk) table.now) }
+    ensures looks { Looks (P.view plant.old) (P.view plant.new) }
+    ensures cause { HasCause (P.view plant.old).faults (P.view plant.new).faults result }
+{
+    match onie_entry(table) {
+        Ok(onie) => Ok(holds_image(plant, onie)?),
+        Err(_) => Ok(false),
+    }
+}
+
+/// The variables, or None where there are none that can be read. It only reads. `Failed` where the plant fails.
+pub fn open_vars<P: Plant>(plant: &mut P) -> Result<Option<BootVars>, Failed>
     ensures held { (P.view plant.old).tells → IfOk result (MayHold ((P.view plant.old).size Flash) ((P.view plant.old).reads Flash)) }
+    ensures fits { IfOk result (λ vars. IfSome vars (FitsVars (P.view plant.new))) }
     ensures looks { Looks (P.view plant.old) (P.view plant.new) }
     ensures cause { HasCause (P.view plant.old).faults (P.view plant.new).faults result }
 {
