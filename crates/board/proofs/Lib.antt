@@ -1,0 +1,5 @@
+mod Noting
+mod Keeping
+mod Refusing
+mod Openings
+mod VariableChanges

@@ -1,0 +1,4 @@
+pub mod Journal
+pub mod Held
+pub mod Changes
+pub mod Opening

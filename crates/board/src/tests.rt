@@ -1,0 +1,440 @@
+//! Boards in memory that are opened and changed, cut at each moment or failing at each call.
+
+ghost use Rattle.std.specs.Prelude.{◌≡◌, ◌≤◌, ◌-◌, ◌%◌, length};
+ghost use Rattle.cuts.specs.Orderly.{IsLawfulTable};
+ghost use Rattle.gpt_copy.specs.Copy.{FitsDisk};
+ghost use Rattle.storage_model.specs.Entries.{IsSane};
+
+use super::*;
+use bd_dev::{Area, Plant};
+use bd_sim::{Pick, SimPlant};
+use bd_text::Guid;
+use gpt_copy::{Entry, Table, Which, write_copy};
+use gpt_table::{add, delete};
+use std::alloc::Global;
+use std::test::Fail;
+
+/// An unused entry.
+const UNUSED: Entry = Entry {
+    kind: Guid { bytes: [0; 16] },
+    guid: Guid { bytes: [0; 16] },
+    first: 0,
+    last: 0,
+    attributes: 0,
+    name: [0; 36],
+};
+
+/// ONIE's boot type, 7412F7D5-A156-4B13-81DC-867174929325, as EFI keeps it.
+const ONIE_TYPE: Guid = Guid {
+    bytes: [
+        0xD5, 0xF7, 0x12, 0x74, 0x56, 0xA1, 0x13, 0x4B, 0x81, 0xDC, 0x86, 0x71, 0x74, 0x92, 0x93,
+        0x25,
+    ],
+};
+
+/// A table with ONIE in sectors 40 to 50 and, where there is a second entry, a NOS in sectors 51 and 52.
+fn table(sectors: u64, has_nos: bool) -> Table
+    requires { 97 ≤ sectors }
+    ensures { FitsDisk (sectors - 1) result }
+{
+    let mut entries = [UNUSED; 128];
+    entries[0] = Entry {
+        kind: ONIE_TYPE,
+        guid: Guid { bytes: [1; 16] },
+        first: 40,
+        last: 50,
+        ..UNUSED
+    };
+    if has_nos {
+        entries[1] = Entry {
+            kind: Guid { bytes: [7; 16] },
+            guid: Guid { bytes: [2; 16] },
+            first: 51,
+            last: 52,
+            ..UNUSED
+        };
+    }
+    Table {
+        disk: Guid { bytes: [9; 16] },
+        first_usable: 34,
+        last_usable: sectors - 34,
+        entries,
+    }
+}
+
+/// Puts bytes at an offset, where there is room.
+fn fill(area: &mut [u8], at: usize, bytes: &[u8]) {
+    if at <= area.len() && bytes.len() <= area.len() - at {
+        area[at..at + bytes.len()].copy_from_slice(bytes);
+    }
+}
+
+/// A disk of so many sectors with ONIE's image of one byte, whose copies of the table have a NOS or not.
+fn disk(alloc: Global, sectors: usize, primary: bool, backup: bool) -> Result<Vec<u8>, Fail>
+    requires least { 97 ≤ sectors }
+    requires most { sectors ≤ 131072 }
+{
+    let last = sectors as u64 - 1;
+    let mut disk = [0; 512].as_slice().repeat(alloc, sectors)?;
+    let mut copy = [0; 16896];
+    let first = table(sectors as u64, primary);
+    write_copy(&first, Which::Primary, last, &mut copy);
+    fill(&mut disk, 512, &copy);
+    let second = table(sectors as u64, backup);
+    write_copy(&second, Which::Backup, last, &mut copy);
+    fill(&mut disk, 512 * (sectors - 33), &copy);
+    fill(&mut disk, 40 * 512, b"ONIEIMG1\x01\0\0\0\x01");
+    Ok(disk)
+}
+
+/// A flash whose slot 0 asks for mode install, as number 1.
+fn flash(alloc: Global) -> Result<Vec<u8>, Fail> {
+    let mut flash = [0; 512].as_slice().repeat(alloc, 34)?;
+    fill(&mut flash, 0, b"ONIEOPEN");
+    fill(&mut flash, 512, b"\x01\0\0\0\0\0\0\0\x19\0\0\0");
+    fill(&mut flash, 524, b"onie_boot_reason=install\0");
+    Ok(flash)
+}
+
+/// A plant over these bytes, whose calls of these numbers fail.
+fn plant(alloc: Global, disk: &[u8], flash: &[u8], fails: &[u64]) -> Result<SimPlant, Fail> {
+    if disk.len() > 1 << 30
+        || disk.len() % 512 != 0
+        || flash.len() > 1 << 20
+        || flash.len() % 512 != 0
+    {
+        return Err(Fail::new("a size"));
+    }
+    Ok(SimPlant::new(alloc, disk, flash, fails)?)
+}
+
+/// A plant with a sound board of 128 sectors.
+fn sound(alloc: Global, fails: &[u64]) -> Result<SimPlant, Fail> {
+    plant(
+        alloc,
+        &disk(alloc, 128, false, false)?,
+        &flash(alloc)?,
+        fails,
+    )
+}
+
+#[test]
+fn a_put_keeps_to_the_disk_and_off_the_table(rt: HostRuntime) -> Result<(), Fail> {
+    let alloc = rt.alloc();
+    let rows: [(u64, bool, Result<(), BoardFault>); 10] = [
+        (33, false, Err(BoardFault::OnTable)),
+        (131_039, false, Err(BoardFault::OnTable)),
+        (131_071, true, Err(BoardFault::Range)),
+        (131_072, false, Err(BoardFault::Range)),
+        (u64::MAX, false, Err(BoardFault::Range)),
+        (1, false, Err(BoardFault::OnTable)),
+        (0, true, Err(BoardFault::OnTable)),
+        (131_038, true, Err(BoardFault::OnTable)),
+        (0, false, Ok(())),
+        (131_037, true, Ok(())),
+    ];
+    let mut plant = plant(
+        alloc,
+        &disk(alloc, 131_072, false, false)?,
+        &flash(alloc)?,
+        &[],
+    )?;
+    for (lba, two, answer) in rows {
+        let mut board = match Board::open(alloc, &mut plant) {
+            Ok(board) => board,
+            Err(_) => return Err(Fail::new("not opened")),
+        };
+        let result = if two {
+            board.put(lba, &[5; 1024])
+        } else {
+            board.put(lba, &[5; 512])
+        };
+        assert_eq!(rt; result, answer, "{lba}");
+        let noted = board.journal().len();
+        assert_eq!(rt; noted, if answer == Ok(()) { 1 } else { 0 }, "{lba}");
+    }
+    Ok(())
+}
+
+/// A NOS in sectors 51 and 52.
+const NOS: Entry = Entry {
+    kind: Guid { bytes: [7; 16] },
+    guid: Guid { bytes: [2; 16] },
+    first: 51,
+    last: 52,
+    ..UNUSED
+};
+
+/// A table with the NOS as its second entry, or as it was where that can't be.
+fn with_nos(table: &Table) -> Table
+    requires { IsSane table.now }
+    ensures { IsLawfulTable table.now result }
+{
+    let mut changed = *table;
+    match add(&mut changed, 2, NOS) {
+        Ok(_) => changed,
+        Err(_) => *table,
+    }
+}
+
+/// A table without its second entry, or as it was where that isn't used.
+fn without_nos(table: &Table) -> Table
+    requires { IsSane table.now }
+    ensures { IsLawfulTable table.now result }
+{
+    let mut changed = *table;
+    match delete(&mut changed, 2) {
+        Ok(()) => changed,
+        Err(_) => *table,
+    }
+}
+
+/// Opens the board and makes eight changes of it, one after the other. Answers how many effects were noted, and
+/// whether all were done.
+fn change(alloc: Global, plant: &mut SimPlant) -> Result<(usize, bool), OpenFault> {
+    let mut board = Board::open(alloc, plant)?;
+    if let Err(_) = board.put(51, &[0xA1; 512]) {
+        return Ok((board.journal().len(), false));
+    }
+    if let Err(_) = board.sync() {
+        return Ok((board.journal().len(), false));
+    }
+    let with = with_nos(board.table());
+    if let Err(_) = board.set_table(&with) {
+        return Ok((board.journal().len(), false));
+    }
+    if let Err(_) = board.put(52, &[0xB2; 1024]) {
+        return Ok((board.journal().len(), false));
+    }
+    if let Err(_) = board.put(0, &[0xC3; 512]) {
+        return Ok((board.journal().len(), false));
+    }
+    let without = without_nos(board.table());
+    if let Err(_) = board.set_table(&without) {
+        return Ok((board.journal().len(), false));
+    }
+    if let Err(_) = board.put(51, &[0xD4; 512]) {
+        return Ok((board.journal().len(), false));
+    }
+    if let Err(_) = board.sync() {
+        return Ok((board.journal().len(), false));
+    }
+    Ok((board.journal().len(), true))
+}
+
+/// What a board reads after so many of these changes: whether it has the NOS, and the first bytes of sectors 51, 52
+/// and 0.
+fn state(effects: usize) -> (bool, u8, u8, u8) {
+    let has_nos = 3 <= effects && effects < 6;
+    let first = match effects {
+        0 => 0,
+        1..=6 => 0xA1,
+        _ => 0xD4,
+    };
+    let second = if 4 <= effects { 0xB2 } else { 0 };
+    let zero = if 5 <= effects { 0xC3 } else { 0 };
+    (has_nos, first, second, zero)
+}
+
+/// The first byte of a sector, as a board reads it.
+fn first_byte(plant: &mut SimPlant, lba: u64) -> Result<u8, Fail> {
+    let mut sector = [0; 512];
+    if plant.sectors(Area::Disk) <= lba {
+        return Err(Fail::new("a sector"));
+    }
+    plant.read(Area::Disk, lba, &mut sector)?;
+    Ok(sector[0])
+}
+
+/// What the board of a plant reads, or None where it is not sound.
+fn reads(alloc: Global, plant: &mut SimPlant) -> Result<Option<(bool, u8, u8, u8)>, Fail> {
+    let has_nos = match Board::open(alloc, plant) {
+        Ok(board) => board.table().entries[1] != UNUSED,
+        Err(_) => return Ok(None),
+    };
+    Ok(Some((
+        has_nos,
+        first_byte(plant, 51)?,
+        first_byte(plant, 52)?,
+        first_byte(plant, 0)?,
+    )))
+}
+
+#[test]
+fn all_changes_are_done_and_noted(rt: HostRuntime) -> Result<(), Fail> {
+    let mut plant = sound(rt.alloc(), &[])?;
+    assert_eq!(rt; change(rt.alloc(), &mut plant), Ok((8, true)));
+    assert_eq!(rt; reads(rt.alloc(), &mut plant)?, Some(state(8)));
+    Ok(())
+}
+
+/// Whether the board that a plant holds after one of its calls failed in the changes is that after the effects that
+/// were done, or after the one that ran too.
+fn holds(alloc: Global, plant: &mut SimPlant, noted: usize) -> Result<bool, Fail> {
+    let found = reads(alloc, plant)?;
+    Ok(found == Some(state(noted)) || (1 <= noted && found == Some(state(noted - 1))))
+}
+
+#[test]
+fn each_call_fails_in_turn(rt: HostRuntime) -> Result<(), Fail> {
+    let mut done = sound(rt.alloc(), &[])?;
+    assert_eq!(rt; change(rt.alloc(), &mut done), Ok((8, true)));
+    for number in 1..=done.calls() {
+        let mut plant = sound(rt.alloc(), &[number])?;
+        match change(rt.alloc(), &mut plant) {
+            Ok((noted, all)) => {
+                assert!(rt; !all, "{number}");
+                assert!(rt; holds(rt.alloc(), &mut plant, noted)?, "{number}");
+            }
+            Err(fault) => {
+                assert_eq!(rt; fault, OpenFault::Fault, "{number}");
+                assert!(rt; holds(rt.alloc(), &mut plant, 0)?, "{number}");
+            }
+        }
+    }
+    Ok(())
+}
+
+#[test]
+fn the_lesser_copy_is_repaired(rt: HostRuntime) -> Result<(), Fail> {
+    let alloc = rt.alloc();
+    let cases: [(bool, bool, bool, bool); 3] = [
+        (false, true, false, false),
+        (true, false, false, true),
+        (true, false, true, false),
+    ];
+    for (primary, backup, torn, has_nos) in cases {
+        let mut bytes = disk(alloc, 128, primary, backup)?;
+        if torn {
+            fill(&mut bytes, 600, b"torn");
+            fill(&mut bytes, 512, b"torn");
+        }
+        let mut plant = plant(alloc, &bytes, &flash(alloc)?, &[])?;
+        let state = reads(alloc, &mut plant)?;
+        assert_eq!(rt; state, Some((has_nos, 0, 0, 0)), "{primary} {torn}");
+        let calls = plant.calls();
+        assert_eq!(rt; reads(alloc, &mut plant)?, state, "{primary} {torn}");
+        // The second opening writes nothing: it takes a write and a sync less, and reads no copy twice.
+        let again = plant.calls().saturating_sub(calls);
+        let less = if torn { 3 } else { 2 };
+        assert_eq!(rt; again.saturating_add(less), calls, "{primary} {torn}");
+    }
+    Ok(())
+}
+
+/// Why a board is not sound.
+fn unsound(alloc: Global, disk: &[u8], flash: &[u8]) -> Result<Option<OpenFault>, Fail> {
+    let mut plant = plant(alloc, disk, flash, &[])?;
+    match Board::open(alloc, &mut plant) {
+        Ok(_) => Ok(None),
+        Err(fault) => Ok(Some(fault)),
+    }
+}
+
+#[test]
+fn a_board_that_is_not_sound_is_not_opened(rt: HostRuntime) -> Result<(), Fail> {
+    let alloc = rt.alloc();
+    let good = disk(alloc, 128, false, false)?;
+    let flash = flash(alloc)?;
+    assert_eq!(rt; unsound(alloc, &good, &flash)?, None);
+    let none = OpenFault::NotSound(SoundKind::NoTable);
+    assert_eq!(rt;
+        unsound(alloc, &good[..good.len().min(67 * 512)], &flash)?,
+        Some(none)
+    );
+    let no_vars = OpenFault::NotSound(SoundKind::NoVars);
+    assert_eq!(rt;
+        unsound(alloc, &good, &flash[..flash.len().min(33 * 512)])?,
+        Some(no_vars)
+    );
+    let mut other = disk(alloc, 128, false, false)?;
+    fill(&mut other, 40 * 512, b"onieimg1");
+    let no_image = OpenFault::NotSound(SoundKind::NoImage);
+    assert_eq!(rt; unsound(alloc, &other, &flash)?, Some(no_image));
+    assert_eq!(rt;
+        unsound(alloc, &other, &flash[..flash.len().min(33 * 512)])?,
+        Some(no_image)
+    );
+    Ok(())
+}
+
+/// The sectors of the disk that may be torn within a call, each left in this way.
+fn torn(
+    alloc: Global,
+    plant: &SimPlant,
+    moment: u64,
+    way: Pick,
+) -> Result<Vec<(Area, u64, Pick)>, Fail> {
+    let mut picks = Vec::new(alloc);
+    for lba in 0..plant.sectors(Area::Disk) {
+        if plant.allows(moment, &[(Area::Disk, lba, way)]) {
+            picks.push((Area::Disk, lba, way))?;
+        }
+    }
+    Ok(picks)
+}
+
+/// Whether what a power cut within a call leaves is a sound board, with the table and the sectors before or after one
+/// of the effects.
+fn survives(alloc: Global, plant: &SimPlant, moment: u64, way: Pick) -> Result<bool, Fail> {
+    let picks = torn(alloc, plant, moment, way)?;
+    if !plant.allows(moment, picks.as_slice()) {
+        return Ok(false);
+    }
+    let mut left = plant.image(moment, picks.as_slice())?;
+    let Some((has_nos, _, _, _)) = reads(alloc, &mut left)? else {
+        return Ok(false);
+    };
+    let first = first_byte(&mut left, 51)?;
+    for effects in 0..9 {
+        let (table, byte, _, _) = state(effects);
+        if has_nos == table && (first == byte || way == Pick::Torn(255) || way == Pick::Old) {
+            return Ok(true);
+        }
+    }
+    Ok(false)
+}
+
+#[test]
+fn each_power_cut_leaves_a_sound_board(rt: HostRuntime) -> Result<(), Fail> {
+    let alloc = rt.alloc();
+    let mut plant = sound(alloc, &[])?;
+    assert_eq!(rt; change(alloc, &mut plant), Ok((8, true)));
+    for moment in 0..=plant.calls() {
+        for way in [Pick::Old, Pick::New, Pick::Torn(0), Pick::Torn(255)] {
+            assert!(rt; survives(alloc, &plant, moment, way)?, "{moment}");
+        }
+    }
+    Ok(())
+}
+
+/// Sets memory aside, sets and unsets variables, and answers how many effects were noted, with the text at the end.
+fn vary(alloc: Global, plant: &mut SimPlant) -> Result<(usize, Vec<u8>), Fail> {
+    let mut board = match Board::open(alloc, plant) {
+        Ok(board) => board,
+        Err(_) => return Err(Fail::new("not opened")),
+    };
+    if let Err(_) = board.set_var(b"nos_bootcmd", b"boot x") {
+        return Err(Fail::new("not set"));
+    }
+    if let Err(_) = board.unset_var(b"onie_boot_reason") {
+        return Err(Fail::new("not unset"));
+    }
+    if let Err(_) = board.unset_var(b"absent") {
+        return Err(Fail::new("not left"));
+    }
+    Ok((
+        board.journal().len(),
+        Vec::from_slice(alloc, board.vars().text())?,
+    ))
+}
+
+#[test]
+fn variables_are_set_and_unset(rt: HostRuntime) -> Result<(), Fail> {
+    let mut plant = sound(rt.alloc(), &[])?;
+    let (effects, text) = vary(rt.alloc(), &mut plant)?;
+    assert_eq!(rt; effects, 2);
+    assert!(rt; text.as_slice() == b"nos_bootcmd=boot x\0".as_slice());
+    assert!(rt; reads(rt.alloc(), &mut plant)?.is_some());
+    Ok(())
+}
