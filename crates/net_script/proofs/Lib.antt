@@ -5,3 +5,10 @@ mod Parting
 mod Splitting
 mod Stars
 mod Yields
+mod Firsts
+mod Sorting
+mod Blocks
+mod Mine
+mod Bodies
+mod Serves
+mod Flows

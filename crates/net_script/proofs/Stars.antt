@@ -1,10 +1,8 @@
 -- A star is no number.
-use Rattle.std.proofs.Common.{◌≡◌, ◌<◌, ◌^◌, ℕ, List, codes, Result, Ok, refl, sym, ◌∙◌, subst, arith}
-use Rattle.std.specs.Fmt.{decimal}
+use Rattle.std.proofs.Common.{◌≡◌, ℕ, List, codes, Result, Ok, refl, sym, subst, arith}
 use Rattle.std.specs.Str.Parse.{IsNumeral}
 use Rattle.std.proofs.lemmas.Fmt.{decimal_is_IsNumeral}
 use Rattle.net_script.specs.Numbers.{SpellsNumber, SpellsRounds}
-use Rattle.net_script.specs.declared.fault.ScriptKind.{ScriptKind}
 use Rattle.net_script.specs.declared.line.Rounds.{Rounds}
 use Rattle.net_script.specs.declared.line.Rounds.TheVariants.{All, One}
 

@@ -1,5 +1,5 @@
 -- Hosts and servers in a line, and how labels show them.
-use Rattle.std.specs.Prelude.{◌≡◌, ◌≢◌, ◌⊎◌, ◌+◌, ◌<◌, ◌≤◌, ◌==◌, ◌&&◌, ◌||◌, nat_le, Bool, IsTrue, ℕ, List, [], ◌∷◌, ◌++◌, length, take, drop, slice_index}
+use Rattle.std.specs.Prelude.{◌≡◌, ◌≢◌, ◌⊎◌, ◌+◌, ◌<◌, ◌==◌, ◌&&◌, ◌||◌, nat_le, Bool, IsTrue, ℕ, List, [], ◌∷◌, ◌++◌, length, take, drop, slice_index}
 use Rattle.std.specs.List.{before_first, list_all, position_or_len}
 use Rattle.bd_text.specs.V4.{SpellsV4}
 use Rattle.bd_text.specs.V6.{PrintsV6, SpellsV6}

@@ -6,3 +6,7 @@ pub mod Keywords
 pub mod Lines
 pub mod Faults
 pub mod Script
+pub mod Serving
+pub mod Feeds
+pub mod Playing
+pub mod Collecting

@@ -1,5 +1,5 @@
 -- What a line says, and after which lines.
-use Rattle.std.specs.Prelude.{◌≡◌, ◌⊎◌, ◌<◌, ◌≤◌, ◌==◌, ◌||◌, Bool, true, false, IsTrue, ℕ, List, [], ◌∷◌, ◌++◌, length, codes, Contains, Option, Some}
+use Rattle.std.specs.Prelude.{◌≡◌, ◌<◌, ◌≤◌, Bool, true, false, IsTrue, ℕ, List, [], ◌∷◌, ◌++◌, length, codes, Contains, Some}
 use Rattle.std.specs.List.{flat_map, list_any}
 use Rattle.bd_dev.specs.declared.net.Arrival.{Arrival}
 use Rattle.bd_dev.specs.declared.net.Arrival.TheVariants.{Datagram, Echo, Stream, End, Reset}

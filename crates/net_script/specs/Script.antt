@@ -1,5 +1,5 @@
 -- What a script says, or its first wrong line.
-use Rattle.std.specs.Prelude.{◌≡◌, ◌⊎◌, ◌<◌, ◌≤◌, ◌+◌, ◌==◌, ◌||◌, Bool, true, false, IsTrue, ℕ, List, [], ◌∷◌, ◌++◌, length, codes, slice_index, Result, Ok, Err}
+use Rattle.std.specs.Prelude.{◌≡◌, ◌⊎◌, ◌≤◌, ◌+◌, ◌==◌, ◌||◌, Bool, false, IsTrue, ℕ, List, [], ◌∷◌, ◌++◌, length, slice_index, Result, Ok, Err}
 use Rattle.std.specs.List.{slice_split}
 use Rattle.net_script.specs.Faults.{IsLineFault}
 use Rattle.net_script.specs.Lines.{Says, has_flow, ifaces_of}

@@ -2,9 +2,9 @@
 
 ghost use Rattle.std.specs.Prelude.{◌≡◌};
 ghost use Rattle.net_script.specs.declared.fault.LineFault.TheVariants.{Bad, Memory as LineMemory};
-ghost use Rattle.net_script.specs.declared.fault.ScriptFault.TheVariants.{Memory as ScriptMemory};
+ghost use Rattle.net_script.specs.declared.fault.ScriptFault.TheVariants.{Media, Memory as ScriptMemory};
 
-use bd_dev::Memory;
+use bd_dev::{Failed, Memory};
 use std::alloc::{AllocError, AllocFailed};
 use thiserror::Error;
 
@@ -70,6 +70,14 @@ impl From<AllocError> for ScriptFault {
 
     fn from(_error: AllocError) -> ScriptFault {
         ScriptFault::Memory
+    }
+}
+
+impl From<Failed> for ScriptFault {
+    ghost from_gives = { λ _ fault. fault ≡ Media };
+
+    fn from(_failed: Failed) -> ScriptFault {
+        ScriptFault::Media
     }
 }
 

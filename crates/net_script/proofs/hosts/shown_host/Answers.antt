@@ -1,4 +1,4 @@
-use Rattle.std.proofs.Common.{◌≡◌, ◌∷◌, ◌++◌, [], ℕ, List, inl, inr, Ok, Err, sym, ◌∙◌, ap, subst, refl}
+use Rattle.std.proofs.Common.{ℕ, List, inl, inr, Ok, sym, ◌∙◌, ap, subst}
 use Rattle.net_script.proofs.Parting.{not_some}
 use Rattle.net_script.specs.Hosts.{ShowsAddress, SpellsZoned}
 use Rattle.net_script.proofs.hosts.shown_host.Goals as goal

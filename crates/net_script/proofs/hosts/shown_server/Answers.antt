@@ -1,6 +1,6 @@
-use Rattle.std.proofs.Common.{◌≡◌, ◌∷◌, ◌++◌, [], ℕ, List, inl, inr, Ok, Err, sym, ◌∙◌, ap, subst, refl, append_assoc, rules}
+use Rattle.std.proofs.Common.{◌≡◌, ◌∷◌, ◌++◌, ℕ, List, inl, inr, Err, sym, ◌∙◌, ap, subst, append_assoc, rules}
 use Rattle.net_script.specs.Hosts.{HasHost, ShowsHost}
-use Rattle.net_script.specs.declared.fault.LineFault.TheVariants.{Bad, Memory}
+use Rattle.net_script.specs.declared.fault.LineFault.TheVariants.{Bad}
 use Rattle.net_script.specs.declared.fault.ScriptKind.TheVariants.{Address}
 use Rattle.net_script.proofs.Parting.{one_host, one_port}
 use Rattle.net_script.proofs.hosts.shown_server.Goals as goal

@@ -1,5 +1,4 @@
 use Rattle.std.proofs.Common.{◌≡◌, ◌++◌, ◌∷◌, [], List, ℕ, append_assoc, sym, ◌∙◌, ap, rules}
-use Rattle.net_script.specs.Hosts.{ShowsAddress}
 use Rattle.net_script.proofs.hosts.shown_v6.Goals as goal
 
 pub returns-clause-one : goal.returns-clause-one

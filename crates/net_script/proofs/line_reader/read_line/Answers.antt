@@ -1,5 +1,5 @@
 use Rattle.std.proofs.Common.{◌≡◌, ◌∙◌, ◌≤◌, ℕ, List, Option, Some, length, inr, sym, ap, subst, arith}
-use Rattle.net_script.specs.Faults.{IsLineFault, IsWordsFault}
+use Rattle.net_script.specs.Faults.{IsWordsFault}
 use Rattle.net_script.specs.Keywords.{keyword_of}
 use Rattle.net_script.specs.Tests.{Unless}
 use Rattle.net_script.specs.Words.{word}

@@ -1,4 +1,4 @@
-use Rattle.std.proofs.Common.{◌≡◌, ℕ, List, Ok, sym, ◌∙◌, ap, subst, refl}
+use Rattle.std.proofs.Common.{◌≡◌, ℕ, List, sym, ◌∙◌, subst}
 use Rattle.net_script.specs.Hosts.{ShowsServer}
 use Rattle.net_script.specs.Lines.{tftp_label}
 use Rattle.net_script.specs.Numbers.{SpellsNumber, SpellsRounds}

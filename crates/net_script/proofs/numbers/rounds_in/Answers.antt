@@ -1,7 +1,4 @@
-use Rattle.std.proofs.Common.{◌≡◌, ◌<◌, ◌^◌, ℕ, List, codes, sym, ◌∙◌, subst, rules}
-use Rattle.net_script.specs.Numbers.{SpellsNumber, SpellsRounds}
-use Rattle.net_script.specs.declared.line.Rounds.{Rounds}
-use Rattle.net_script.specs.declared.line.Rounds.TheVariants.{All, One}
+use Rattle.std.proofs.Common.{◌≡◌, codes, sym, rules}
 use Rattle.net_script.proofs.numbers.rounds_in.Goals as goal
 use Rattle.net_script.proofs.Stars.{all_rounds}
 

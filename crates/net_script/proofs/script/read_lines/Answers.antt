@@ -1,10 +1,9 @@
-use Rattle.std.proofs.Common.{◌≡◌, ℕ, ◌+◌, ◌<◌, ◌≤◌, List, [], ◌∷◌, Result, Ok, Err, length, drop, get_or, eqb, refl, sym, ◌∙◌, ap, subst, arith, length-append, rules, tests}
+use Rattle.std.proofs.Common.{◌≡◌, ℕ, ◌+◌, ◌<◌, List, [], ◌∷◌, Ok, Err, length, drop, get_or, eqb, refl, sym, ◌∙◌, ap, subst, arith, length-append, rules, tests}
 use Rattle.std.proofs.lemmas.Iterator.Consumers.{YieldsList-turn, YieldsList-end}
 use Rattle.std.proofs.lemmas.List.Splits.{length-slice_split}
 use Rattle.std.proofs.lemmas.List.Sums.{count_by-le-length}
-use Rattle.net_script.specs.Script.{Fault, Reads, texts_of}
+use Rattle.net_script.specs.Script.{Reads, texts_of}
 use Rattle.net_script.specs.declared.fault.ScriptFault.TheVariants.{Bad}
-use Rattle.net_script.specs.declared.line.Numbered.{Numbered}
 use Rattle.net_script.proofs.LineSteps.{all_dropped, backward, err_answers, forward, from_place, ok_answers, wrong, wrong_alone}
 use Rattle.net_script.proofs.Yields.{parts_yielded}
 use Rattle.net_script.proofs.script.read_lines.Goals as goal

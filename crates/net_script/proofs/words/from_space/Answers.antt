@@ -1,4 +1,4 @@
-use Rattle.std.proofs.Common.{◌≡◌, ◌<◌, ℕ, length, get_or, eqb, true, arith}
+use Rattle.std.proofs.Common.{get_or, eqb, arith}
 use Rattle.std.proofs.lemmas.Bool.Decides.{Decides-eqb}
 use Rattle.net_script.proofs.Splitting.{drop_to}
 use Rattle.net_script.proofs.words.from_space.Goals as goal

@@ -1,4 +1,4 @@
-use Rattle.std.proofs.Common.{◌≡◌, ◌++◌, ◌∷◌, [], ℕ, List, eqb, map, not, length, sym, ◌∙◌, ap, rules, tests}
+use Rattle.std.proofs.Common.{◌++◌, ◌∷◌, [], ℕ, List, eqb, map, not, length, sym, ◌∙◌, ap, rules, tests}
 use Rattle.std.proofs.lemmas.Iterator.Consumers.{YieldsList-end}
 use Rattle.std.proofs.lemmas.List.{map_push}
 use Rattle.std.proofs.lemmas.List.Elements.{filter-append}

@@ -1,0 +1,119 @@
+//! The open flows of a network that plays a script, and which arrival comes first.
+
+ghost use Rattle.std.specs.Prelude.{◌≡◌, ◌≤◌, None, length, map, slice_set, IfOk, OnErr};
+ghost use Rattle.net_script.specs.Playing.{AdvancesAt, AreClosed, FirstBelow, WaitsAt, next_time_of, sooner_of};
+
+use crate::arrivals::{Timed, copy_of};
+use bd_dev::{Arrival, Bytes, Memory};
+use std::alloc::Global;
+
+/// An open flow.
+#[derive(Drop)]
+pub(crate) struct Flow {
+    /// The time of its opening, in milliseconds.
+    pub(crate) since: u64,
+    pub(crate) round: u32,
+    pub(crate) label: Bytes,
+    /// How many of its arrivals were given.
+    pub(crate) given: usize,
+    // In order of time.
+    pub(crate) arrivals: Vec<Timed>,
+}
+
+/// The time at which the next arrival of an open flow comes, or the greatest time where it comes later than that; none
+/// where nothing comes to it any more, or it was closed.
+fn next_time(flow: &Option<Flow>) -> Option<u64>
+    ensures { result ≡ next_time_of flow.now }
+{
+    match flow {
+        None => None,
+        Some(flow) => match flow.arrivals.get(flow.given) {
+            None => None,
+            Some(timed) => Some(flow.since.saturating_add(timed.at)),
+        },
+    }
+}
+
+/// The best so far, or this flow where its time comes before it.
+fn sooner(
+    best: Option<(usize, u64)>,
+    until: u64,
+    number: usize,
+    time: Option<u64>,
+) -> Option<(usize, u64)>
+    ensures { result ≡ sooner_of best until number time }
+{
+    match (best, time) {
+        (best, None) => best,
+        (None, Some(time)) => {
+            if time < until {
+                Some((number, time))
+            } else {
+                None
+            }
+        }
+        (Some((first, least)), Some(time)) => {
+            if time < least {
+                Some((number, time))
+            } else {
+                Some((first, least))
+            }
+        }
+    }
+}
+
+/// The flow to which an arrival comes first and before `until`, and its time: of flows of one time the one opened
+/// first. All flows before `from` are closed.
+pub(crate) fn earliest(flows: &[Option<Flow>], from: usize, until: u64) -> Option<(usize, u64)>
+    requires { AreClosed flows.now from }
+    ensures { FirstBelow until (map next_time_of flows.now) (length flows.now) result }
+{
+    let mut best = None;
+    let mut number = from;
+    while number < flows.len() {
+        best = sooner(best, until, number, next_time(&flows[number]));
+        number += 1;
+    }
+    best
+}
+
+/// Gives a copy of the next arrival of the open flow of this number, or answers `Memory` and changes nothing.
+pub(crate) fn advance(
+    alloc: Global,
+    flows: &mut Vec<Option<Flow>>,
+    number: usize,
+) -> Result<Arrival, Memory>
+    requires { WaitsAt flows.old.items number }
+    ensures advances { IfOk result (AdvancesAt flows.old.items flows.new.items number) }
+    ensures unchanged { OnErr result (flows.new.items ≡ flows.old.items) }
+{
+    match &mut flows[number] {
+        Some(flow) => {
+            let arrival = copy_of(alloc, &flow.arrivals[flow.given].arrival)?;
+            flow.given += 1;
+            Ok(arrival)
+        }
+        None => unreachable!(),
+    }
+}
+
+/// Closes the flow of this number, if there is one.
+pub(crate) fn close_at(flows: &mut Vec<Option<Flow>>, number: usize)
+    ensures { flows.new.items ≡ slice_set flows.old.items number None }
+{
+    if number < flows.len() {
+        flows[number] = None;
+    }
+}
+
+/// The number of the first flow from `from` on that is open, or of all flows.
+pub(crate) fn first_open(flows: &[Option<Flow>], from: usize) -> usize
+    requires { AreClosed flows.now from }
+    ensures { AreClosed flows.now result }
+{
+    let mut number = from;
+    while number < flows.len() && flows[number].is_none() {
+        number += 1;
+    }
+    number
+}
