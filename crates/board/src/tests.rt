@@ -7,10 +7,12 @@ ghost use Rattle.storage_model.specs.Entries.{IsSane};
 
 use super::*;
 use bd_dev::{Area, Plant};
+use bd_mode::Mode;
 use bd_sim::{Pick, SimPlant};
 use bd_text::Guid;
 use gpt_copy::{Entry, Table, Which, write_copy};
 use gpt_table::{add, delete};
+use soundness::{Boots, boots, judge};
 use std::alloc::Global;
 use std::test::Fail;
 
@@ -436,5 +438,178 @@ fn variables_are_set_and_unset(rt: HostRuntime) -> Result<(), Fail> {
     assert_eq!(rt; effects, 2);
     assert!(rt; text.as_slice() == b"nos_bootcmd=boot x\0".as_slice());
     assert!(rt; reads(rt.alloc(), &mut plant)?.is_some());
+    Ok(())
+}
+
+/// Opens a board and installs a NOS on it, which it then boots, and takes it off again: ten effects of all kinds, in an
+/// orderly run. Answers how many were noted.
+fn install(alloc: Global, plant: &mut SimPlant) -> Result<usize, OpenFault> {
+    let mut board = Board::open(alloc, plant)?;
+    let with = with_nos(board.table());
+    if let Err(_) = board.set_table(&with) {
+        return Ok(board.journal().len());
+    }
+    if let Err(_) = board.put(51, &[0xA1; 1024]) {
+        return Ok(board.journal().len());
+    }
+    if let Err(_) = board.sync() {
+        return Ok(board.journal().len());
+    }
+    if let Err(_) = board.set_var(b"nos_bootcmd", b"boot 02020202-0202-0202-0202-020202020202") {
+        return Ok(board.journal().len());
+    }
+    if let Err(_) = board.unset_var(b"onie_boot_reason") {
+        return Ok(board.journal().len());
+    }
+    if let Err(_) = board.put(60, &[0xB2; 512]) {
+        return Ok(board.journal().len());
+    }
+    if let Err(_) = board.sync() {
+        return Ok(board.journal().len());
+    }
+    if let Err(_) = board.set_var(b"onie_boot_reason", b"uninstall") {
+        return Ok(board.journal().len());
+    }
+    if let Err(_) = board.unset_var(b"nos_bootcmd") {
+        return Ok(board.journal().len());
+    }
+    let without = without_nos(board.table());
+    if let Err(_) = board.set_table(&without) {
+        return Ok(board.journal().len());
+    }
+    Ok(board.journal().len())
+}
+
+/// What the board boots after so many of these effects, and whether it has the NOS's partition.
+fn stage(effects: usize) -> (Boots, bool) {
+    let boots = match effects {
+        0..=4 => Boots::Onie(Mode::Install),
+        5..=7 => Boots::Nos(NOS.guid),
+        _ => Boots::Onie(Mode::Uninstall),
+    };
+    (boots, 1 <= effects && effects < 10)
+}
+
+/// Whether the sectors of the NOS's partition hold what was written to them.
+fn is_whole(plant: &mut SimPlant) -> Result<bool, Fail> {
+    let mut sectors = [0; 1024];
+    if plant.sectors(Area::Disk) < 53 {
+        return Ok(false);
+    }
+    plant.read(Area::Disk, 51, &mut sectors)?;
+    Ok(sectors == [0xA1; 1024])
+}
+
+/// Whether a plant holds a sound board as after so many effects, whose NOS is whole where it boots it.
+fn is_at(plant: &mut SimPlant, effects: usize) -> Result<bool, Fail> {
+    let Ok(sound) = judge(plant) else {
+        return Ok(false);
+    };
+    let (what, has_nos) = stage(effects);
+    let found = boots(&sound.table, &sound.vars);
+    let same = found == what && (sound.table.entries[1] != UNUSED) == has_nos;
+    Ok(same && (found != Boots::Nos(NOS.guid) || is_whole(plant)?))
+}
+
+/// Whether a plant holds such a board after one of these effects.
+fn is_at_some(plant: &mut SimPlant) -> Result<bool, Fail> {
+    for effects in 0..11 {
+        if is_at(plant, effects)? {
+            return Ok(true);
+        }
+    }
+    Ok(false)
+}
+
+#[test]
+fn ten_effects_install_a_nos_and_take_it_off(rt: HostRuntime) -> Result<(), Fail> {
+    let mut plant = sound(rt.alloc(), &[])?;
+    assert!(rt; is_at(&mut plant, 0)?);
+    assert_eq!(rt; install(rt.alloc(), &mut plant), Ok(10));
+    assert!(rt; is_at(&mut plant, 10)?);
+    Ok(())
+}
+
+#[test]
+fn each_call_of_an_installation_fails_in_turn(rt: HostRuntime) -> Result<(), Fail> {
+    let mut done = sound(rt.alloc(), &[])?;
+    assert_eq!(rt; install(rt.alloc(), &mut done), Ok(10));
+    for number in 1..=done.calls() {
+        let mut plant = sound(rt.alloc(), &[number])?;
+        let noted = match install(rt.alloc(), &mut plant) {
+            Ok(noted) => noted,
+            Err(_) => 0,
+        };
+        let before = noted.saturating_sub(1);
+        assert!(rt;
+            is_at(&mut plant, noted)? || is_at(&mut plant, before)?,
+            "{number}"
+        );
+    }
+    Ok(())
+}
+
+/// The sectors that may be torn within a call, each left in this way.
+fn torn_everywhere(
+    alloc: Global,
+    plant: &SimPlant,
+    moment: u64,
+    way: Pick,
+) -> Result<Vec<(Area, u64, Pick)>, Fail> {
+    let mut picks = torn(alloc, plant, moment, way)?;
+    for lba in 0..plant.sectors(Area::Flash) {
+        if plant.allows(moment, &[(Area::Flash, lba, way)]) {
+            picks.push((Area::Flash, lba, way))?;
+        }
+    }
+    Ok(picks)
+}
+
+#[test]
+fn each_power_cut_leaves_onie_or_a_whole_nos(rt: HostRuntime) -> Result<(), Fail> {
+    let alloc = rt.alloc();
+    let mut plant = sound(alloc, &[])?;
+    assert_eq!(rt; install(alloc, &mut plant), Ok(10));
+    for moment in 0..=plant.calls() {
+        for way in [Pick::Old, Pick::New, Pick::Torn(0), Pick::Torn(255)] {
+            let picks = torn_everywhere(alloc, &plant, moment, way)?;
+            assert!(rt; plant.allows(moment, picks.as_slice()), "{moment}");
+            let mut left = plant.image(moment, picks.as_slice())?;
+            assert!(rt; is_at_some(&mut left)?, "{moment}");
+        }
+    }
+    Ok(())
+}
+
+/// Opens the board, and makes one change of it, or none. Answers whether that was done.
+fn change_once(alloc: Global, plant: &mut SimPlant, change: usize) -> Result<bool, OpenFault> {
+    let mut board = Board::open(alloc, plant)?;
+    let table = with_nos(board.table());
+    let answer = match change {
+        0 => Ok(()),
+        1 => board.put(51, &[0xA1; 8192]),
+        2 => board.sync(),
+        _ => board.set_table(&table),
+    };
+    Ok(answer == Ok(()))
+}
+
+/// How many calls of the plant the opening and one change take. The put is of 16 sectors.
+fn calls_of(alloc: Global, change: usize) -> Result<u64, Fail> {
+    let mut plant = sound(alloc, &[])?;
+    if change_once(alloc, &mut plant, change) != Ok(true) {
+        return Err(Fail::new("not changed"));
+    }
+    Ok(plant.calls())
+}
+
+/// A put is one write, a sync one sync, and a change of the table two writes and two syncs.
+#[test]
+fn calls_are_counted(rt: HostRuntime) -> Result<(), Fail> {
+    let opening = calls_of(rt.alloc(), 0)?;
+    for (change, more) in [(1, 1), (2, 1), (3, 4)] {
+        let calls = calls_of(rt.alloc(), change)?;
+        assert_eq!(rt; calls.saturating_sub(opening), more, "{change}");
+    }
     Ok(())
 }
