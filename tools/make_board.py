@@ -1,4 +1,7 @@
-"""Makes a board folder for `onie`: `eeprom.bin`, `media/` with volumes, `disk.img`, `flash.img`."""
+"""Makes a board folder for `onie`.
+
+It has `eeprom.bin`, `media/` with volumes, `disk.img`, `flash.img`, and `net.txt`.
+"""
 
 from __future__ import annotations
 
@@ -53,6 +56,9 @@ A NAME of a variable is 1 to 64 letters, digits or _, and a VALUE has the charac
 to ~. Variables are written in the order given, as number 1 into slot 0. Without --variable
 there is onie_boot_reason=install.
 
+The script of the network is a copy of the file given, wrong lines too. Without --script it is
+empty: nothing comes over the network.
+
 examples:
   make_board.py board
   make_board.py board --field 28=arm-acme_a1-r2 --field 24=02:00:00:00:00:01 --field 0x2A=4
@@ -64,6 +70,7 @@ examples:
       --variable "nos_bootcmd=boot 01234567-89ab-cdef-0123-456700000002"
   make_board.py board --sectors 4096 --entry 1=onie,,34,99,ONIE-BOOT
   make_board.py board --no-disk --no-flash
+  make_board.py board --defaults --file net/nos.bin=hi --script network.txt
 """
 
 Item = TypeVar("Item")
@@ -189,7 +196,10 @@ def has_room(table: gpt.Table, entry: gpt.Entry) -> bool:
 def board_of(options: argparse.Namespace) -> Board:
     """The board that the options ask for."""
     both = options.defaults
-    parts = {"eeprom.bin": eeprom_of(options.field, both)}
+    parts = {
+        "eeprom.bin": eeprom_of(options.field, both),
+        "net.txt": whole(options.script.read_bytes() if options.script else b""),
+    }
     if options.disk:
         parts["disk.img"] = disk_of(options.entry, both, options.sectors)
     elif options.entry or options.sectors != DEFAULT_SECTORS:
@@ -251,6 +261,9 @@ def parser() -> OneLineParser:
         metavar="N",
         default=DEFAULT_SECTORS,
         help=f"how many sectors of 512 bytes the disk has, by default {DEFAULT_SECTORS}",
+    )
+    line.add_argument(
+        "--script", metavar="FILE", type=Path, help="the script of the network, by default empty"
     )
     line.add_argument("--no-disk", dest="disk", action="store_false", help="make no disk.img")
     line.add_argument("--no-flash", dest="flash", action="store_false", help="make no flash.img")

@@ -279,7 +279,8 @@ class Disk(BoardTest):
 
     def test_none(self) -> None:
         self.make("--no-disk")
-        self.assertEqual(sorted(os.listdir(self.board)), ["eeprom.bin", "flash.img", "media"])
+        names = ["eeprom.bin", "flash.img", "media", "net.txt"]
+        self.assertEqual(sorted(os.listdir(self.board)), names)
 
 
 class FlashImage(BoardTest):
@@ -312,7 +313,8 @@ class FlashImage(BoardTest):
 
     def test_none(self) -> None:
         self.make("--no-flash")
-        self.assertEqual(sorted(os.listdir(self.board)), ["disk.img", "eeprom.bin", "media"])
+        names = ["disk.img", "eeprom.bin", "media", "net.txt"]
+        self.assertEqual(sorted(os.listdir(self.board)), names)
 
     def test_example_of_the_help(self) -> None:
         """A board that boots the NOS in entry 2."""
@@ -322,6 +324,22 @@ class FlashImage(BoardTest):
             *("--variable", "onie_boot_reason=", "--variable", f"nos_bootcmd=boot {guid}"),
         )
         self.assertIn(f"\nboots nos {guid}\n", self.status()[1])
+
+
+class Script(BoardTest):
+    def test_empty(self) -> None:
+        self.make()
+        self.assertEqual((self.board / "net.txt").read_bytes(), b"")
+
+    def test_copied(self) -> None:
+        """The bytes of the file, whatever they are; the file stays."""
+        script = self.folder / "script"
+        for place, text in enumerate((b"", b"iface eth0\n", b"\xff\r\nwrong\0")):
+            script.write_bytes(text)
+            self.board = self.folder / str(place)
+            self.make("--script", str(script))
+            self.assertEqual((self.board / "net.txt").read_bytes(), text)
+            self.assertEqual(script.read_bytes(), text)
 
 
 class Refusals(BoardTest):
@@ -462,13 +480,17 @@ class Refusals(BoardTest):
         self.check_refused("--no-disk makes no disk", "--no-disk", "--sectors=100")
         self.check_refused("--no-flash makes no flash", "--no-flash", "--variable=a=b")
 
+    def test_script_that_is_no_file(self) -> None:
+        self.check_refused("nowhere", "--script", str(self.folder / "nowhere"))
+        self.check_refused(self.folder.name, "--script", str(self.folder))
+
     def test_options(self) -> None:
         self.check_refused("unrecognized arguments: --files", "--files")
         self.check_refused("unrecognized arguments: a b", "a\nb")
         self.check_refused("expected one argument", "--field")
 
     def test_what_stands_in_the_folder_is_kept(self) -> None:
-        for name in ("eeprom.bin", "media", "disk.img", "flash.img"):
+        for name in ("eeprom.bin", "media", "disk.img", "flash.img", "net.txt"):
             with self.subTest(name):
                 self.board = self.folder / name / "board"
                 self.board.mkdir(parents=True)

@@ -1,11 +1,12 @@
 //! `onie`: makes the devices over the files of the folder that it runs in, and calls the top call.
 //!
 //! `disk.img` and `flash.img` are the disk and the flash, `eeprom.bin` is the identity EEPROM, the folders of `media/`
-//! are the volumes of local media, and the console is standard output. The exit status is the number of the status that
-//! the top call answers.
+//! are the volumes of local media, `net.txt` is the script of the network, and the console is standard output. `net.trace`
+//! takes what is sent; a call of `discover` empties it first. The exit status is the number of the status that the top
+//! call answers.
 #![tactic(auto)]
 
-use bd_file::{FileEeprom, FilePlant, FolderMedia, OutSink};
+use bd_file::{FileEeprom, FilePlant, FileSink, FileSource, FolderMedia, OutSink};
 use onie_cli::{Status, onie};
 use std::env;
 use std::io::{self, ErrorKind};
@@ -21,6 +22,14 @@ fn words(rt: &(impl Env + AllocGlobal)) -> io::Result<Vec<String>> {
     Ok(words)
 }
 
+/// Whether the words are `discover` alone.
+fn is_discover(words: &[String]) -> bool {
+    match words {
+        [word] => word.as_str() == "discover",
+        _ => false,
+    }
+}
+
 fn run(rt: &(impl Env + Files + Print + AllocGlobal + Clone + Drop)) -> Status {
     let alloc = rt.alloc();
     let words = match words(rt) {
@@ -32,14 +41,21 @@ fn run(rt: &(impl Env + Files + Print + AllocGlobal + Clone + Drop)) -> Status {
     let mut plant = FilePlant::new(rt, "disk.img", "flash.img");
     let mut eeprom = FileEeprom::new(rt, "eeprom.bin");
     let mut media = FolderMedia::new(rt, "media");
+    let mut script = FileSource::new(rt, "net.txt");
     let mut console = OutSink::new(rt);
+    let mut trace = FileSink::new(rt, "net.trace");
+    if is_discover(&words) {
+        trace.clear();
+    }
     onie(
         alloc,
         &words,
         &mut plant,
         &mut eeprom,
         &mut media,
+        &mut script,
         &mut console,
+        &mut trace,
     )
 }
 

@@ -1,4 +1,3 @@
-pub mod Lines
 pub mod Words
 pub mod Outcomes
 pub mod BoardLemmas
@@ -6,3 +5,8 @@ pub mod FieldsLemmas
 pub mod ChangeLemmas
 pub mod ChangeVariableLemmas
 pub mod Printing
+pub mod Fronts
+pub mod Scripts
+pub mod Asked
+pub mod Finding
+pub mod Nearby

@@ -19,6 +19,8 @@ prints_line text statuses.PlantFault old mid new h line front = record { mid = m
 prints_line text (statuses.BadEeprom kind) old mid new h line front = record { mid = mid; so_far = h; line = line (λ e. cc) }
 prints_line text statuses.EepromFault old mid new h line front = record { mid = mid; so_far = h; line = line (λ e. cc) }
 prints_line text statuses.MediaFault old mid new h line front = record { mid = mid; so_far = h; line = line (λ e. cc) }
+prints_line text statuses.SourceFault old mid new h line front = record { mid = mid; so_far = h; line = line (λ e. cc) }
+prints_line text (statuses.BadScript number kind) old mid new h line front = record { mid = mid; so_far = h; line = line (λ e. cc) }
 prints_line text statuses.SinkFault old mid new h line front = record { mid = mid; status = statuses.SinkFault; so_far = h; front = front }
 prints_line text (statuses.Refused kind) old mid new h line front = record { mid = mid; so_far = h; line = line (λ e. cc) }
 prints_line text statuses.Memory old mid new h line front = record { mid = mid; so_far = h; line = line (λ e. cc) }
@@ -51,7 +53,7 @@ done-same outcome status result mid new done e line =
     let nothing : Appends mid new (refusal_line_of (statuses.Done outcome)) = subst (λ s. Appends mid new (refusal_line_of s)) done (line (λ f. let k = sym e ∙ f in cc)) in
     Appends-nothing mid new nothing
 
-front-nothing : (old : Option (List ℕ)) → AppendsFront old old []
+pub front-nothing : (old : Option (List ℕ)) → AppendsFront old old []
 front-nothing old = Appends-front old old [] (Appends-same old)
 
 -- a run that prints nothing
@@ -63,6 +65,8 @@ comes-nothing statuses.PlantFault old = refl
 comes-nothing (statuses.BadEeprom kind) old = refl
 comes-nothing statuses.EepromFault old = refl
 comes-nothing statuses.MediaFault old = front-nothing old
+comes-nothing statuses.SourceFault old = refl
+comes-nothing (statuses.BadScript line kind) old = refl
 comes-nothing statuses.SinkFault old = front-nothing old
 comes-nothing (statuses.Refused kind) old = refl
 comes-nothing statuses.Memory old = front-nothing old

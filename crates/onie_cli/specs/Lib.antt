@@ -3,11 +3,11 @@ pub mod Words
 pub mod Refusal
 pub mod Board
 pub mod ChangeVariable
-pub mod Local
-pub mod Line
 pub mod Console
 pub mod Discover
 pub mod ShowStatus
 pub mod Fields
 pub mod Eeprom
 pub mod EepromSet
+pub mod Script
+pub mod Asking

@@ -46,6 +46,7 @@ pub(crate) fn set_field<E: Eeprom>(alloc: Global, eeprom: &mut E, code: u8, text
     ensures no_usage { result ≢ Status.Usage }
     ensures no_plant { result ≢ Status.PlantFault }
     ensures no_media { result ≢ Status.MediaFault }
+    ensures no_source { result ≢ Status.SourceFault }
     ensures no_sink { result ≢ Status.SinkFault }
     ensures unreadable { RefusesUnreadable (E.content eeprom.old) result }
     ensures reason { (kind : RefusedKind) → result ≡ Status.Refused kind → ForSome (E.content eeprom.old) (λ bytes. RefusesChange code text.now bytes kind) }

@@ -10,9 +10,8 @@ mod change;
 mod command;
 mod discovery;
 mod fields;
-mod line;
 mod loading;
-mod local;
+mod network;
 mod refusal;
 mod setting;
 mod showing;
@@ -23,6 +22,8 @@ pub use soundness::SoundKind;
 pub use status::{EepromKind, Outcome, RefusedKind, Status};
 pub use top::onie;
 
+#[cfg(test)]
+mod script_tests;
 #[cfg(test)]
 mod set_tests;
 #[cfg(test)]

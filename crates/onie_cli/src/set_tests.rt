@@ -1,21 +1,27 @@
 //! `set` and `unset` over a flash in memory: what they print, keep and leave alone.
 
+ghost use Rattle.std.specs.Prelude.{◌≡◌, IfOk, length};
+
 use super::*;
-use bd_dev::{MemEeprom, MemMedia, MemSink};
+use bd_dev::{MemEeprom, MemMedia, MemSink, MemSource};
 use bd_sim::SimPlant;
 use std::alloc::Global;
 use std::test::Fail;
 
-/// A flash whose second slot has this text under this number, and whose first slot is closed.
-fn flash(number: u64, text: &[u8]) -> [u8; 17_408] {
-    let mut flash = [0; 17_408];
+/// A flash whose second slot has this text, of fewer than 200 bytes, under this number, and whose first slot is closed.
+fn flash(alloc: Global, number: u64, text: &[u8]) -> Result<Vec<u8>, Fail>
+    ensures { IfOk result (λ flash. length flash.items ≡ 17408) }
+{
+    let mut flash = [0; 512].as_slice().repeat(alloc, 34)?;
+    if flash.len() != 17_408 {
+        return Err(Fail::new("a size"));
+    }
     flash[8704..8712].copy_from_slice(b"ONIEOPEN");
     flash[9216..9224].copy_from_slice(&number.to_le_bytes());
     flash[9224] = text.len().min(255) as u8;
-    if text.len() < 200 {
-        flash[9228..9228 + text.len()].copy_from_slice(text);
-    }
-    flash
+    let (front, _) = text.split_at(text.len().min(199));
+    flash[9228..9228 + front.len()].copy_from_slice(front);
+    Ok(flash)
 }
 
 const INSTALL: &[u8] = b"onie_boot_reason=install\0";
@@ -34,7 +40,18 @@ fn run(
     let mut eeprom = MemEeprom::new(alloc, b"", &[1])?;
     let mut media = MemMedia::new(alloc, &[1])?;
     let mut console = MemSink::new(alloc, &[console_fails])?;
-    let status = onie(alloc, &words, plant, &mut eeprom, &mut media, &mut console);
+    let mut script = MemSource::new(alloc, b"", &[1])?;
+    let mut trace = MemSink::new(alloc, &[1])?;
+    let status = onie(
+        alloc,
+        &words,
+        plant,
+        &mut eeprom,
+        &mut media,
+        &mut script,
+        &mut console,
+        &mut trace,
+    );
     Ok((status, console))
 }
 
@@ -95,7 +112,7 @@ fn variables_are_set_and_unset(rt: HostRuntime) -> Result<(), Fail> {
         ),
     ];
     for (line, want, printed, text) in cases {
-        let mut plant = SimPlant::new(rt.alloc(), &[], &flash(7, INSTALL), &[])?;
+        let mut plant = SimPlant::new(rt.alloc(), &[], &flash(rt.alloc(), 7, INSTALL)?, &[])?;
         let (status, console) = run(rt.alloc(), &mut plant, line, 0)?;
         assert_eq!(rt; status, want);
         assert_eq!(rt; console.as_slice(), printed);
@@ -120,7 +137,7 @@ fn a_flash_takes_so_many_bytes(rt: HostRuntime) -> Result<(), Fail> {
         let Some(value) = value.get(..long) else {
             continue;
         };
-        let mut plant = SimPlant::new(rt.alloc(), &[], &flash(7, INSTALL), &[])?;
+        let mut plant = SimPlant::new(rt.alloc(), &[], &flash(rt.alloc(), 7, INSTALL)?, &[])?;
         let (status, console) = run(rt.alloc(), &mut plant, &["set", "a", value], 0)?;
         assert_eq!(rt; status, want);
         assert_eq!(rt; console.as_slice(), printed.as_bytes());
@@ -144,7 +161,12 @@ fn the_greatest_number_ends_the_sequence(rt: HostRuntime) -> Result<(), Fail> {
         (&["unset", "a"], STORED, b""),
     ];
     for (line, want, printed) in cases {
-        let mut plant = SimPlant::new(rt.alloc(), &[], &flash(u64::MAX, INSTALL), &[])?;
+        let mut plant = SimPlant::new(
+            rt.alloc(),
+            &[],
+            &flash(rt.alloc(), u64::MAX, INSTALL)?,
+            &[],
+        )?;
         let (status, console) = run(rt.alloc(), &mut plant, line, 0)?;
         assert_eq!(rt; status, want);
         assert_eq!(rt; console.as_slice(), printed);
@@ -158,7 +180,7 @@ fn the_greatest_number_ends_the_sequence(rt: HostRuntime) -> Result<(), Fail> {
 #[test]
 fn a_flash_without_variables_takes_none(rt: HostRuntime) -> Result<(), Fail> {
     for text in [b"".as_slice(), b"bad\0"] {
-        let mut flash = flash(7, text);
+        let mut flash = flash(rt.alloc(), 7, text)?;
         if text.is_empty() {
             flash[8704] = 0;
         }
@@ -179,7 +201,7 @@ fn a_flash_without_variables_takes_none(rt: HostRuntime) -> Result<(), Fail> {
 #[test]
 fn each_fault_of_the_flash_is_told(rt: HostRuntime) -> Result<(), Fail> {
     for call in 1..=9 {
-        let mut plant = SimPlant::new(rt.alloc(), &[], &flash(7, INSTALL), &[call])?;
+        let mut plant = SimPlant::new(rt.alloc(), &[], &flash(rt.alloc(), 7, INSTALL)?, &[call])?;
         let (status, console) = run(rt.alloc(), &mut plant, &["set", "a", "1"], 0)?;
         assert_eq!(rt; status, Status::PlantFault, "{call}");
         assert_eq!(rt; console.as_slice(), b"onie: plant fault\n".as_slice());
@@ -195,7 +217,7 @@ fn each_fault_of_the_flash_is_told(rt: HostRuntime) -> Result<(), Fail> {
 
 #[test]
 fn a_fault_of_the_console_is_told(rt: HostRuntime) -> Result<(), Fail> {
-    let mut plant = SimPlant::new(rt.alloc(), &[], &flash(7, INSTALL), &[])?;
+    let mut plant = SimPlant::new(rt.alloc(), &[], &flash(rt.alloc(), 7, INSTALL)?, &[])?;
     let (status, console) = run(rt.alloc(), &mut plant, &["set", "a.", "1"], 1)?;
     assert_eq!(rt; status, Status::SinkFault);
     assert!(rt; console.as_slice().is_empty());

@@ -3,7 +3,7 @@
 ghost use Rattle.std.specs.Prelude.{◌≤◌};
 
 use super::*;
-use bd_dev::{MemEeprom, MemMedia, MemSink};
+use bd_dev::{MemEeprom, MemMedia, MemSink, MemSource};
 use bd_sim::SimPlant;
 use std::alloc::Global;
 use std::process::Abort;
@@ -196,7 +196,18 @@ fn status(
     let mut eeprom = MemEeprom::new(alloc, b"", &[1])?;
     let mut media = MemMedia::new(alloc, &[1])?;
     let mut console = MemSink::new(alloc, &[console_fails])?;
-    let status = onie(alloc, &words, plant, &mut eeprom, &mut media, &mut console);
+    let mut script = MemSource::new(alloc, b"", &[1])?;
+    let mut trace = MemSink::new(alloc, &[1])?;
+    let status = onie(
+        alloc,
+        &words,
+        plant,
+        &mut eeprom,
+        &mut media,
+        &mut script,
+        &mut console,
+        &mut trace,
+    );
     Ok((status, console))
 }
 

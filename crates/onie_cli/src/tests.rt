@@ -3,8 +3,11 @@
 ghost use Rattle.std.specs.Prelude.{◌≤◌, length};
 
 use super::*;
-use bd_dev::{Bytes, DevFault, Eeprom, Failed, Media, MemEeprom, MemMedia, MemSink, Names};
+use bd_dev::{
+    Bytes, DevFault, Eeprom, Failed, Media, MemEeprom, MemMedia, MemSink, MemSource, Names,
+};
 use bd_sim::SimPlant;
+use net_script::ScriptKind;
 use std::alloc::Global;
 use std::test::Fail;
 use tlvinfo::{IdentFault, TlvKind};
@@ -116,7 +119,18 @@ fn run_words(
     let mut console = MemSink::new(alloc, &[fails.console])?;
     // No command of these tests calls the plant, whose first call fails.
     let mut plant = SimPlant::new(alloc, b"", b"", &[1])?;
-    let status = onie(alloc, words, &mut plant, eeprom, &mut media, &mut console);
+    let mut script = MemSource::new(alloc, b"", &[])?;
+    let mut trace = MemSink::new(alloc, &[1])?;
+    let status = onie(
+        alloc,
+        words,
+        &mut plant,
+        eeprom,
+        &mut media,
+        &mut script,
+        &mut console,
+        &mut trace,
+    );
     Ok((status, console))
 }
 
@@ -289,13 +303,17 @@ fn a_file_that_shrinks_is_short(rt: HostRuntime) -> Result<(), Fail> {
     let mut eeprom = MemEeprom::new(rt.alloc(), BOARD, &[])?;
     let mut plant = SimPlant::new(rt.alloc(), b"", b"", &[1])?;
     let mut console = MemSink::new(rt.alloc(), &[])?;
+    let mut script = MemSource::new(rt.alloc(), b"", &[])?;
+    let mut trace = MemSink::new(rt.alloc(), &[1])?;
     let status = onie(
         rt.alloc(),
         &words,
         &mut plant,
         &mut eeprom,
         &mut Shrinking,
+        &mut script,
         &mut console,
+        &mut trace,
     );
     assert_eq!(rt; status, Status::Done(Outcome::Printed));
     let first = b"miss file://usb0/onie-installer-x86_64-kvm_x86_64-r0: short 5 3\n".as_slice();
@@ -496,9 +514,17 @@ fn numbers_of_the_statuses(rt: HostRuntime) {
         (Status::Usage, 2),
         (Status::NotSound(SoundKind::NoVars), 3),
         (Status::BadEeprom(EepromKind::Tlv(TlvKind::NoCrc)), 4),
+        (
+            Status::BadScript {
+                line: 7,
+                kind: ScriptKind::Hex,
+            },
+            5,
+        ),
         (Status::PlantFault, 6),
         (Status::EepromFault, 7),
         (Status::MediaFault, 8),
+        (Status::SourceFault, 9),
         (Status::SinkFault, 10),
         (Status::Refused(RefusedKind::BadCode), 12),
         (Status::Memory, 13),

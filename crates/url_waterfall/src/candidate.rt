@@ -11,8 +11,12 @@ use std::alloc::Global;
 /// Where an installer may be.
 #[derive(Drop)]
 pub enum Place {
+    /// Where the text that is shown says, which is a URL.
+    Url,
     /// The file of this name in the volume of this name, on a local medium.
     Local { volume: Bytes, name: Bytes },
+    /// The file of this path on this server, over TFTP. The path is as it is shown: one `/` at its front is dropped.
+    Tftp { server: Bytes, path: Bytes },
 }
 
 /// A place where an installer may be, and the text that is shown for it.
@@ -20,7 +24,7 @@ pub enum Place {
 pub struct Candidate {
     /// Where the installer may be.
     pub place: Place,
-    /// How that is shown, as `file://VOLUME/NAME`.
+    /// How that is shown: `file://VOLUME/NAME`, `tftp://SERVER/PATH`, or the URL.
     pub shown: Bytes,
 }
 

@@ -157,7 +157,9 @@ fn candidate_names_its_file(rt: HostRuntime) -> Result<(), Fail> {
     volumes.push(Bytes::from_slice(rt.alloc(), b"usb0")?)?;
     let list = candidates(rt.alloc(), &identity, Mode::Install, &volumes)?;
     assert_eq!(rt; list.len(), 8);
-    let Place::Local { volume, name } = &list[7].place;
+    let Place::Local { volume, name } = &list[7].place else {
+        return Err(Fail::new("no file"));
+    };
     assert_eq!(rt; volume.as_slice(), b"usb0".as_slice());
     assert_eq!(rt; name.as_slice(), b"onie-installer.bin".as_slice());
     Ok(())

@@ -1,20 +1,56 @@
 use Rattle.std.proofs.Common.{◌∙◌, arith}
-use Rattle.std.specs.Option.{ForSome}
 use Rattle.bd_dev.specs.Sink.{AppendsFront}
-use Rattle.onie_cli.specs.Discover.{line_over, lines_of}
 use Rattle.bd_dev.proofs.Lines.{OnErr-always, one_more_line, front_of_a_line}
+use Rattle.fetch_text.specs.Lines.{line_of}
+use Rattle.find_fetch.specs.declared.fetched.Fetched.{Fetched}
+use Rattle.url_waterfall.specs.declared.candidate.Candidate.{Candidate}
+use Rattle.onie_cli.specs.Asking.{AnswersAs, EndsAmong, asked_all, lines_by}
+use Rattle.onie_cli.proofs.Asked.{ended, left_after, left_for, made_more}
 use Rattle.onie_cli.proofs.discovery.print_all.Goals as goal
+
+pub print_one-requires : goal.print_one-requires
+print_one-requires g c = record {
+  left = λ other. left_for (g.F.Fetcher.Left c.loop-candidate.fetcher) c.args.list.now c.loop-candidate.candidate-index c.candidate-item.result
+      (g.met.F.Fetcher.lawful.fewer c.loop-candidate.fetcher) c.loop-candidate-test.true c.candidate-item.is c.loop-candidate.invariant.2 other;
+}
 
 pub returns-in_err-print_one-clause-front : goal.returns-in_err-print_one-clause-front
 returns-in_err-print_one-clause-front g c =
-    let front : ForSome (g.M.Media.content c.args.media.now) (λ volumes. AppendsFront (g.C.Sink.taken c.args.console.now) (g.C.Sink.taken c.print_one.new.console) (lines_of volumes c.args.list.now)) =
-    λ volumes told. front_of_a_line (line_over volumes) _ _ _ c.args.list.now c.loop-candidate.candidate-index c.candidate-item.result c.loop-candidate-test.true c.candidate-item.is (c.loop-candidate.invariant.1 volumes told) (c.in_err-print_one.ensures.front volumes (c.loop-candidate.invariant.0 ∙ told)) in
+    let front : (found : Candidate → Fetched) → AnswersAs (g.F.Fetcher.answer c.args.fetcher.now) found
+    → AppendsFront (g.C.Sink.taken c.args.console.now) (g.C.Sink.taken c.print_one.new.console) (lines_by found c.args.list.now) =
+    λ found answers. front_of_a_line (λ (d : Candidate). line_of d.shown (found d)) _ _ _ c.args.list.now c.loop-candidate.candidate-index c.candidate-item.result c.loop-candidate-test.true c.candidate-item.is
+    (c.loop-candidate.invariant.3 found answers)
+    (c.in_err-print_one.ensures.front (found c.candidate-item.result) (c.loop-candidate.invariant.0 1 c.candidate-item.result ∙ answers c.candidate-item.result)) in
     OnErr-always _ front
 
+pub returns-in_err-print_one-clause-ended : goal.returns-in_err-print_one-clause-ended
+returns-in_err-print_one-clause-ended g c =
+    let all : EndsAmong g.F.Fetcher.Made g.F.Fetcher.Broken c.args.fetcher.now (asked_all c.args.list.now) c.print_one.new.fetcher =
+    ended g.F.Fetcher.Made g.F.Fetcher.Broken c.args.fetcher.now c.loop-candidate.fetcher c.print_one.new.fetcher c.args.list.now c.loop-candidate.candidate-index c.candidate-item.result
+    (g.met.F.Fetcher.lawful.join c.args.fetcher.now c.loop-candidate.fetcher c.print_one.new.fetcher)
+    (g.met.F.Fetcher.lawful.breaks c.args.fetcher.now c.loop-candidate.fetcher c.print_one.new.fetcher)
+    c.loop-candidate-test.true c.candidate-item.is c.loop-candidate.invariant.1 c.in_err-print_one.ensures.ended in
+    OnErr-always _ all
+
 pub loop-candidate-preserved : goal.loop-candidate-preserved
-loop-candidate-preserved g c = (
-  c.print_one.ensures.kept ∙ c.loop-candidate.invariant.0,
-  λ volumes told. one_more_line (line_over volumes) _ _ _ c.args.list.now c.loop-candidate.candidate-index c.candidate-item.result c.loop-candidate-test.true c.candidate-item.is (c.loop-candidate.invariant.1 volumes told) (c.in_ok-print_one.ensures.line volumes (c.loop-candidate.invariant.0 ∙ told)),
-  omega (arith, c.print_one.ensures.media_later, c.loop-candidate.invariant.2),
-  omega (arith, c.print_one.ensures.sink_later, c.loop-candidate.invariant.3),
-)
+loop-candidate-preserved g c =
+    let media = c.print_one.ensures.media.later in
+    let net = c.print_one.ensures.net.later in
+    let before = c.loop-candidate.invariant in
+    let media_before = before.4 in
+    let net_before = before.5 in
+    let trace_before = before.6 in
+    let console_before = before.7 in (
+      λ r d. c.print_one.ensures.same r d ∙ c.loop-candidate.invariant.0 r d,
+      made_more g.F.Fetcher.Made c.args.fetcher.now c.loop-candidate.fetcher c.print_one.new.fetcher c.args.list.now c.loop-candidate.candidate-index c.candidate-item.result
+          (g.met.F.Fetcher.lawful.join c.args.fetcher.now c.loop-candidate.fetcher c.print_one.new.fetcher)
+          c.loop-candidate-test.true c.candidate-item.is c.loop-candidate.invariant.1 c.in_ok-print_one.ensures.made,
+      c.print_one.ensures.left _ (left_after (g.F.Fetcher.Left c.loop-candidate.fetcher) c.args.list.now c.loop-candidate.candidate-index c.candidate-item.result c.loop-candidate-test.true c.candidate-item.is c.loop-candidate.invariant.2),
+      λ found answers. one_more_line (λ (d : Candidate). line_of d.shown (found d)) _ _ _ c.args.list.now c.loop-candidate.candidate-index c.candidate-item.result c.loop-candidate-test.true c.candidate-item.is
+          (c.loop-candidate.invariant.3 found answers)
+          (c.in_ok-print_one.ensures.line (found c.candidate-item.result) (c.loop-candidate.invariant.0 1 c.candidate-item.result ∙ answers c.candidate-item.result)),
+      omega (arith, media, media_before),
+      omega (arith, net, net_before),
+      omega (arith, c.print_one.ensures.trace_later, trace_before),
+      omega (arith, c.print_one.ensures.console_later, console_before),
+    )

@@ -2,7 +2,6 @@ use Rattle.std.proofs.Common.{◌≡◌, ◌⊎◌, ℕ, List, Bor, [], refl, sy
 use Rattle.plant_runs.proofs.Joins.{looks_now}
 use Rattle.onie_cli.specs.declared.status.Outcome.TheVariants as outcomes
 use Rattle.onie_cli.specs.declared.status.Status.TheVariants as statuses
-use Rattle.onie_cli.specs.Board.{IsAfterBoard, IsAfterRefusal}
 use Rattle.onie_cli.specs.ChangeVariable.{IsChangeAnswer, MakesChange, set_change, unset_change}
 use Rattle.onie_cli.specs.Console.{ComesSoFar}
 use Rattle.onie_cli.specs.Discover.{PrintsBoard}
@@ -11,6 +10,7 @@ use Rattle.onie_cli.specs.ShowStatus.{IsAfterSound, IsAfterUnsound, IsStatusAnsw
 use Rattle.onie_cli.specs.EepromSet.{IsAfterRefusedChange, IsAfterStorable, StoresChange}
 use Rattle.onie_cli.proofs.Printing.{comes-nothing, done-same, prints, reported, reported-back, unreadable-reported}
 use Rattle.onie_cli.proofs.ChangeVariableLemmas.{makes_reported}
+use Rattle.onie_cli.proofs.Finding.{finds_reported}
 use Rattle.onie_cli.proofs.Words.{asked_discover, asked_eeprom, asked_set, asked_set_variable, asked_status, asked_unset_variable}
 use Rattle.onie_cli.proofs.top.onie.Goals as goal
 use Rattle.onie_cli.proofs.top.onie.Goals.{in-Some-Status, in-Some-Discover, in-Some-Eeprom, in-Some-EepromSet, in-Some-Set, in-Some-Unset, in-None}
@@ -71,6 +71,39 @@ returns-clause-media_unused g c = λ no_discover. elim c.match-read_words.branch
   | in-Some-Set w ↦ w.media-is
   | in-Some-Unset w ↦ w.media-is
   | in-None w ↦ w.media-is
+]
+
+pub returns-clause-script_unused : goal.returns-clause-script_unused
+returns-clause-script_unused g c = λ no_discover. elim c.match-read_words.branch [
+  | in-Some-Status w ↦ w.script-is
+  | in-Some-Discover w ↦ absurd (no_discover (rw w.in-Some-Discover.field-0-is at w.in-Some-Discover.ensures))
+  | in-Some-Eeprom w ↦ w.script-is
+  | in-Some-EepromSet w ↦ w.script-is
+  | in-Some-Set w ↦ w.script-is
+  | in-Some-Unset w ↦ w.script-is
+  | in-None w ↦ w.script-is
+]
+
+pub returns-clause-trace_unused : goal.returns-clause-trace_unused
+returns-clause-trace_unused g c = λ no_discover. elim c.match-read_words.branch [
+  | in-Some-Status w ↦ w.trace-is
+  | in-Some-Discover w ↦ absurd (no_discover (rw w.in-Some-Discover.field-0-is at w.in-Some-Discover.ensures))
+  | in-Some-Eeprom w ↦ w.trace-is
+  | in-Some-EepromSet w ↦ w.trace-is
+  | in-Some-Set w ↦ w.trace-is
+  | in-Some-Unset w ↦ w.trace-is
+  | in-None w ↦ w.trace-is
+]
+
+pub returns-clause-untraced : goal.returns-clause-untraced
+returns-clause-untraced g c = elim c.match-read_words.branch [
+  | in-Some-Status w ↦ rw w.trace-is refl
+  | in-Some-Discover w ↦ rw w.trace-is w.discover-status.ensures.untraced
+  | in-Some-Eeprom w ↦ rw w.trace-is refl
+  | in-Some-EepromSet w ↦ rw w.trace-is refl
+  | in-Some-Set w ↦ rw w.trace-is refl
+  | in-Some-Unset w ↦ rw w.trace-is refl
+  | in-None w ↦ rw w.trace-is refl
 ]
 
 pub returns-clause-plant_unused : goal.returns-clause-plant_unused
@@ -141,13 +174,14 @@ returns-clause-discover g c = λ words. elim c.match-read_words.branch [
       let d = w.discover-status.ensures in
       let answer : (c.report.result ≡ w.discover-status.result) ⊎ (c.report.result ≡ statuses.SinkFault) = rw (← w.status-is) c.report.ensures.answer in
       record {
-        bad = λ kind e. d.bad kind (reported-back w.discover-status.result c.report.result (statuses.BadEeprom kind) (λ f. cc) answer e);
-        refused = λ bytes told kind h. reported (IsAfterRefusal kind) w.discover-status.result c.report.result (d.refused bytes told kind h) tt answer;
-        identified = λ bytes told board h. reported IsAfterBoard w.discover-status.result c.report.result (d.identified bytes told board h) tt answer;
+        finds = finds_reported _ _ _ w.discover-status.result c.report.result d.finds answer;
+        read_out = λ e.
+            let done = reported-back w.discover-status.result c.report.result (statuses.Done outcomes.Printed) (λ f. cc) answer e in
+            rw w.script-is (d.read_out done);
         printed = λ e bytes told.
             let done = reported-back w.discover-status.result c.report.result (statuses.Done outcomes.Printed) (λ f. cc) answer e in
             let same = done-same outcomes.Printed c.match-read_words.status c.report.result _ _ (w.status-is ∙ done) e c.report.ensures.written in
-            subst (PrintsBoard bytes (g.M.Media.content c.args.media.now) (g.C.Sink.taken c.args.console.now)) (sym (same ∙ ap g.C.Sink.taken w.console-is)) (d.printed done bytes told);
+            subst (PrintsBoard bytes (g.S.Source.left c.args.script.now) (g.M.Media.content c.args.media.now) (g.C.Sink.taken c.args.console.now)) (sym (same ∙ ap g.C.Sink.taken w.console-is)) (d.printed done bytes told);
         console = λ text is.
             let so_far : ComesSoFar text c.match-read_words.status (g.C.Sink.taken c.args.console.now) (g.C.Sink.taken c.match-read_words.console) = rw (w.status-is, w.console-is) (d.console text is) in
             prints text _ _ _ _ _ so_far c.report.ensures.answer c.report.ensures.written c.report.ensures.front;

@@ -1,0 +1,6 @@
+mod AimLemmas
+mod Asking
+mod Clients
+mod Fronts
+mod Lifted
+mod Seeking

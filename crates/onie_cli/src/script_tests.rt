@@ -1,0 +1,351 @@
+//! `discover` over the script of a network: which scripts are played, and how others are refused.
+
+use super::*;
+use bd_dev::{MemEeprom, MemMedia, MemSink, MemSource, Source};
+use bd_sim::SimPlant;
+use net_script::ScriptKind;
+use std::alloc::Global;
+use std::test::Fail;
+use tlvinfo::TlvKind;
+
+const BOARD: &[u8] =
+    b"TlvInfo\0\x01\0$(\x14x86_64-kvm_x86_64-r0$\x06\0\x11\"3DU\xfe\x04\x99!\xba\x7f";
+
+/// A line behind a comment, which serves the file `img`.
+const SERVES: &str = "# one\ntftp * 10.0.0.1:69 img img 10\n";
+
+/// What a call takes and leaves.
+#[derive(Drop)]
+struct Devices {
+    eeprom: MemEeprom,
+    media: MemMedia,
+    script: MemSource,
+    console: MemSink,
+    trace: MemSink,
+}
+
+/// The numbers of the calls that fail, of each device. No call has the number 0.
+#[derive(Clone, Copy)]
+struct Fails {
+    media: u64,
+    script: u64,
+    console: u64,
+}
+
+const NO_FAILS: Fails = Fails {
+    media: 0,
+    script: 0,
+    console: 0,
+};
+
+/// The devices of a board with this script, and the volume `usb0` with one installer.
+fn board_with(alloc: Global, script: &[u8], fails: Fails) -> Result<Devices, Fail> {
+    let mut media = MemMedia::new(alloc, &[fails.media])?;
+    media.add(b"usb0", b"onie-installer", b"12345")?;
+    Ok(Devices {
+        eeprom: MemEeprom::new(alloc, BOARD, &[])?,
+        media,
+        script: MemSource::new(alloc, script, &[fails.script])?,
+        console: MemSink::new(alloc, &[fails.console])?,
+        trace: MemSink::new(alloc, &[1])?,
+    })
+}
+
+/// The status of `discover` over the devices.
+fn discover(alloc: Global, devices: &mut Devices) -> Result<Status, Fail> {
+    let mut words = Vec::new(alloc);
+    words.push(String::from_str(alloc, "discover")?)?;
+    // The plant is not called: its first call fails.
+    let mut plant = SimPlant::new(alloc, b"", b"", &[1])?;
+    Ok(onie(
+        alloc,
+        &words,
+        &mut plant,
+        &mut devices.eeprom,
+        &mut devices.media,
+        &mut devices.script,
+        &mut devices.console,
+        &mut devices.trace,
+    ))
+}
+
+/// What `discover` prints for the board over the volume `usb0`.
+const LISTED: &str = "\
+miss file://usb0/onie-installer-x86_64-kvm_x86_64-r0: no file\n\
+miss file://usb0/onie-installer-x86_64-kvm_x86_64-r0.bin: no file\n\
+miss file://usb0/onie-installer-x86_64-kvm_x86_64: no file\n\
+miss file://usb0/onie-installer-x86_64-kvm_x86_64.bin: no file\n\
+miss file://usb0/onie-installer-kvm_x86_64: no file\n\
+miss file://usb0/onie-installer-kvm_x86_64.bin: no file\n\
+miss file://usb0/onie-installer-x86_64: no file\n\
+miss file://usb0/onie-installer-x86_64.bin: no file\n\
+found file://usb0/onie-installer: 5 bytes\n\
+miss file://usb0/onie-installer.bin: no file\n\
+";
+
+/// Scripts that are refused: the line, what is wrong with it, and what is printed.
+#[test]
+fn a_wrong_script_is_refused(rt: HostRuntime) -> Result<(), Fail> {
+    let rows: [(&str, u32, ScriptKind, &str); 12] = [
+        (
+            "hello\n",
+            1,
+            ScriptKind::Unknown,
+            "onie: script line 1: unknown\n",
+        ),
+        (
+            "flow *\n",
+            1,
+            ScriptKind::Missing,
+            "onie: script line 1: missing\n",
+        ),
+        (
+            "iface a b\n",
+            1,
+            ScriptKind::Extra,
+            "onie: script line 1: extra\n",
+        ),
+        (
+            "flow 0 x\n",
+            1,
+            ScriptKind::Number,
+            "onie: script line 1: number\n",
+        ),
+        (
+            "flow * x\nat 5 tcp 0\n",
+            2,
+            ScriptKind::Hex,
+            "onie: script line 2: hex\n",
+        ),
+        (
+            "tftp * 10.0.0:69 a a 10\n",
+            1,
+            ScriptKind::Address,
+            "onie: script line 1: address\n",
+        ),
+        (
+            "iface a:b\n",
+            1,
+            ScriptKind::Iface,
+            "onie: script line 1: iface\n",
+        ),
+        (
+            "at 5 end\n",
+            1,
+            ScriptKind::NoFlow,
+            "onie: script line 1: no flow\n",
+        ),
+        (
+            SERVES,
+            2,
+            ScriptKind::NoBody,
+            "onie: script line 2: no body\n",
+        ),
+        // An empty line counts, and the last may lack its LF.
+        (
+            "\n\n\n\nat 5 end",
+            5,
+            ScriptKind::NoFlow,
+            "onie: script line 5: no flow\n",
+        ),
+        // The first wrong line decides, and a wrong line comes before a file that is lacking.
+        (
+            "at 5 end\nhello\n",
+            1,
+            ScriptKind::NoFlow,
+            "onie: script line 1: no flow\n",
+        ),
+        (
+            "tftp * 10.0.0.1:69 img img 10\nhello\n",
+            2,
+            ScriptKind::Unknown,
+            "onie: script line 2: unknown\n",
+        ),
+    ];
+    for (script, line, kind, text) in rows {
+        let mut devices = board_with(rt.alloc(), script.as_bytes(), NO_FAILS)?;
+        let status = discover(rt.alloc(), &mut devices)?;
+        assert_eq!(rt; status, Status::BadScript { line, kind }, "{script}");
+        assert_eq!(rt; status.number(), 5);
+        assert_eq!(rt; devices.console.as_slice(), text.as_bytes());
+        assert_eq!(rt; devices.trace.as_slice(), b"".as_slice());
+    }
+    Ok(())
+}
+
+/// A script that serves a file of the volume `net` is played: the candidates are listed, the script is read to its end,
+/// and nothing is sent.
+#[test]
+fn a_script_is_played(rt: HostRuntime) -> Result<(), Fail> {
+    for script in ["", SERVES, "flow 1 dns\nat 5 end\n"] {
+        let mut devices = board_with(rt.alloc(), script.as_bytes(), NO_FAILS)?;
+        devices.media.add(b"net", b"img", b"x")?;
+        let status = discover(rt.alloc(), &mut devices)?;
+        assert_eq!(rt; status, Status::Done(Outcome::Printed));
+        assert_eq!(rt; devices.console.as_slice(), LISTED.as_bytes());
+        assert_eq!(rt; devices.trace.as_slice(), b"".as_slice());
+        assert_eq!(rt; devices.script.read(&mut [0; 8])?, 0);
+    }
+    Ok(())
+}
+
+/// The line of each kind, in that of a status.
+#[test]
+fn each_kind_has_its_line(rt: HostRuntime) -> Result<(), Fail> {
+    let rows: [(u32, ScriptKind, &str); 10] = [
+        (0, ScriptKind::TooLong, "onie: script line 0: too long\n"),
+        (1, ScriptKind::Unknown, "onie: script line 1: unknown\n"),
+        (9, ScriptKind::Missing, "onie: script line 9: missing\n"),
+        (10, ScriptKind::Extra, "onie: script line 10: extra\n"),
+        (99, ScriptKind::Number, "onie: script line 99: number\n"),
+        (100, ScriptKind::Hex, "onie: script line 100: hex\n"),
+        (
+            4_294_967_295,
+            ScriptKind::Address,
+            "onie: script line 4294967295: address\n",
+        ),
+        (8, ScriptKind::Iface, "onie: script line 8: iface\n"),
+        (7, ScriptKind::NoFlow, "onie: script line 7: no flow\n"),
+        (6, ScriptKind::NoBody, "onie: script line 6: no body\n"),
+    ];
+    for (line, kind, text) in rows {
+        let mut console = MemSink::new(rt.alloc(), &[])?;
+        let status = Status::BadScript { line, kind };
+        assert_eq!(rt; crate::refusal::report(&mut console, status), status);
+        assert_eq!(rt; console.as_slice(), text.as_bytes());
+    }
+    Ok(())
+}
+
+/// A script of 16,777,217 bytes, all of them LF.
+#[test]
+fn a_long_script_is_refused(rt: HostRuntime) -> Result<(), Fail> {
+    let mut text = Vec::new(rt.alloc());
+    text.resize(16_777_217, b'\n')?;
+    let mut long = board_with(rt.alloc(), text.as_slice(), NO_FAILS)?;
+    let status = discover(rt.alloc(), &mut long)?;
+    let kind = ScriptKind::TooLong;
+    assert_eq!(rt; status, Status::BadScript { line: 0, kind });
+    assert_eq!(rt;
+        long.console.as_slice(),
+        b"onie: script line 0: too long\n".as_slice()
+    );
+    Ok(())
+}
+
+/// One call of a device fails, whose number among that device's calls is given, from 1.
+#[test]
+fn a_fault_ends_the_reading(rt: HostRuntime) -> Result<(), Fail> {
+    let wrong = "at 5 end\n";
+    for (script, fails, want, number, text) in [
+        (
+            SERVES,
+            Fails {
+                media: 0,
+                script: 1,
+                console: 0,
+            },
+            Status::SourceFault,
+            9,
+            "onie: source fault\n",
+        ),
+        // The end of the source is read by a call of its own.
+        (
+            SERVES,
+            Fails {
+                media: 0,
+                script: 2,
+                console: 0,
+            },
+            Status::SourceFault,
+            9,
+            "onie: source fault\n",
+        ),
+        // The served file is looked for before the volumes are listed.
+        (
+            SERVES,
+            Fails {
+                media: 1,
+                script: 0,
+                console: 0,
+            },
+            Status::MediaFault,
+            8,
+            "onie: media fault\n",
+        ),
+        (
+            wrong,
+            Fails {
+                media: 0,
+                script: 0,
+                console: 1,
+            },
+            Status::SinkFault,
+            10,
+            "",
+        ),
+        (
+            wrong,
+            Fails {
+                media: 0,
+                script: 0,
+                console: 2,
+            },
+            Status::SinkFault,
+            10,
+            "onie: script line ",
+        ),
+        (
+            wrong,
+            Fails {
+                media: 0,
+                script: 0,
+                console: 3,
+            },
+            Status::SinkFault,
+            10,
+            "onie: script line 1",
+        ),
+        (
+            wrong,
+            Fails {
+                media: 0,
+                script: 1,
+                console: 1,
+            },
+            Status::SinkFault,
+            10,
+            "",
+        ),
+    ] {
+        let mut devices = board_with(rt.alloc(), script.as_bytes(), fails)?;
+        let status = discover(rt.alloc(), &mut devices)?;
+        assert_eq!(rt; status, want);
+        assert_eq!(rt; status.number(), number);
+        assert_eq!(rt; devices.console.as_slice(), text.as_bytes());
+    }
+    Ok(())
+}
+
+/// An EEPROM without identity is refused before the script, which is not read: the call of the source that fails is
+/// still to come.
+#[test]
+fn the_eeprom_comes_before_the_script(rt: HostRuntime) -> Result<(), Fail> {
+    let fails = Fails {
+        media: 1,
+        script: 1,
+        console: 0,
+    };
+    let mut devices = board_with(rt.alloc(), b"at 5 end\n", fails)?;
+    devices.eeprom = MemEeprom::new(rt.alloc(), b"", &[])?;
+    let status = discover(rt.alloc(), &mut devices)?;
+    let kind = EepromKind::Tlv(TlvKind::NotTlv);
+    assert_eq!(rt; status, Status::BadEeprom(kind));
+    assert_eq!(rt; status.number(), 4);
+    assert_eq!(rt;
+        devices.console.as_slice(),
+        b"onie: eeprom: not tlv\n".as_slice()
+    );
+    assert!(rt; devices.script.read(&mut [0; 8]).is_err());
+    Ok(())
+}
