@@ -1,0 +1,209 @@
+"""Plants the bugs that docs/planted-bugs/ lists, one at a time, and tells whether the prover refuses each.
+
+A crate's list is docs/planted-bugs/CRATE.txt. A bug has these lines, and an empty line ends it:
+
+  bug: what is wrong, in plain words
+  call: the public call that it breaks
+  clause: the clause of its contract, or the definition, that refuses the bug
+  strengthened: what was said more strictly so that it is refused; only where that was so
+  edit: the name of a kept wrong body, crates/CRATE/must-fail/NAME.edit
+
+In place of the last line it may have the edit itself, in one or more such groups:
+
+  file: a file of the crate
+  old: a line's text that stands there once
+  new: what is to stand in its place
+"""
+
+from __future__ import annotations
+
+import argparse
+import re
+import subprocess
+import sys
+from collections.abc import Iterator
+from dataclasses import dataclass
+from pathlib import Path
+
+TOP = Path(__file__).resolve().parents[1]
+LISTS = "docs/planted-bugs"
+PREFIX = "planted_"
+"""How the names of edits begin that stand in must-fail/ while they are tried."""
+
+EXAMPLES = """\
+examples:
+  plant_bugs.py table               prints the tables of docs/planted-bugs.md
+  plant_bugs.py try board cuts      plants the bugs of two crates that aren't kept as edits
+"""
+
+
+class ListError(Exception):
+    """What is wrong with a list, in one line."""
+
+
+@dataclass(frozen=True)
+class Change:
+    """A text of one file, and what takes its place."""
+
+    file: str
+    old: str
+    new: str
+
+
+@dataclass(frozen=True)
+class Bug:
+    """One planted bug: by its kept edit, or by its changes."""
+
+    text: str
+    call: str
+    clause: str
+    strengthened: str = ""
+    edit: str = ""
+    changes: tuple[Change, ...] = ()
+
+
+def lines_of(text: str) -> Iterator[tuple[str, str]]:
+    """The key and the value of each line of a bug."""
+    for line in text.splitlines():
+        key, colon, value = line.partition(": ")
+        if not colon:
+            raise ListError(f"no key: {line!r}")
+        yield key, value
+
+
+def changes_of(lines: list[tuple[str, str]]) -> Iterator[Change]:
+    """The groups of `file`, `old` and `new`."""
+    for place in range(0, len(lines), 3):
+        group = lines[place : place + 3]
+        if [key for key, _ in group] != ["file", "old", "new"]:
+            raise ListError(f"no file, old and new: {group}")
+        change = Change(*(value for _, value in group))
+        if change.old == change.new:
+            raise ListError(f"changes nothing: {change.old!r}")
+        yield change
+
+
+def bug_of(text: str) -> Bug:
+    """A bug from its lines."""
+    lines = list(lines_of(text))
+    changing = [line for line in lines if line[0] in ("file", "old", "new")]
+    said = dict(line for line in lines if line not in changing)
+    if len(said) + len(changing) != len(lines):
+        raise ListError(f"a key comes twice: {text!r}")
+    missing = {"bug", "call", "clause"} - said.keys()
+    unknown = said.keys() - {"bug", "call", "clause", "strengthened", "edit"}
+    if missing or unknown:
+        raise ListError(f"missing {sorted(missing)}, unknown {sorted(unknown)}: {text!r}")
+    if ("edit" in said) == bool(changing):
+        raise ListError(f"either an edit or its changes: {text!r}")
+    return Bug(
+        said["bug"],
+        said["call"],
+        said["clause"],
+        said.get("strengthened", ""),
+        said.get("edit", ""),
+        tuple(changes_of(changing)),
+    )
+
+
+def bugs_of(path: Path) -> list[Bug]:
+    """The bugs of a list, in its order."""
+    try:
+        blocks = re.split(r"\n\n+", path.read_text(encoding="utf-8").strip("\n"))
+        return [bug_of(block) for block in blocks]
+    except (OSError, ListError) as fault:
+        raise ListError(f"{path.name}: {fault}") from fault
+
+
+def crates(top: Path) -> list[str]:
+    """The crates that have a list, lowest first."""
+    names = re.findall(r"^(\w+):", (top / "crates.txt").read_text(), re.MULTILINE)
+    return [name for name in names if (top / LISTS / f"{name}.txt").exists()]
+
+
+def row_of(bug: Bug) -> str:
+    """A row of a crate's table."""
+    kept = f"`{bug.edit}`" if bug.edit else ""
+    clause = f"{bug.clause}; {bug.strengthened}" if bug.strengthened else bug.clause
+    return f"| {bug.text} | `{bug.call}` | {clause} | {kept} |"
+
+
+def table_of(top: Path) -> str:
+    """The tables of all crates."""
+    lines = []
+    for name in crates(top):
+        bugs = bugs_of(top / LISTS / f"{name}.txt")
+        lines += [
+            f"## `{name}`: {len(bugs)}",
+            "",
+            "| Bug | Call | Refused by | Kept as |",
+            "|---|---|---|---|",
+            *map(row_of, bugs),
+            "",
+        ]
+    return "\n".join(lines)
+
+
+def edit_text(bug: Bug) -> str:
+    """The bug as a file of must-fail/."""
+    return "".join(
+        f"file: {change.file}\nold: {change.old}\nnew: {change.new}\n" for change in bug.changes
+    )
+
+
+def verdicts_of(output: str, bugs: dict[str, Bug]) -> dict[str, str]:
+    """What `rt must-fail` said of each planted bug, by the name of its edit."""
+    said = re.findall(rf"/({PREFIX}\d+)\.edit: (.*)", output)
+    return {name: verdict for name, verdict in said if name in bugs}
+
+
+def try_bugs(top: Path, name: str) -> bool:
+    """Plants a crate's bugs that no kept edit has; whether each was refused."""
+    planted = [bug for bug in bugs_of(top / LISTS / f"{name}.txt") if bug.changes]
+    named = {f"{PREFIX}{number:02}": bug for number, bug in enumerate(planted, 1)}
+    folder = top / "crates" / name / "must-fail"
+    folder.mkdir(exist_ok=True)
+    try:
+        for stem, bug in named.items():
+            (folder / f"{stem}.edit").write_text(edit_text(bug))
+        run = subprocess.run(
+            ["rt", "must-fail", name],
+            cwd=top,
+            stdout=subprocess.PIPE,
+            stderr=subprocess.STDOUT,
+            text=True,
+            check=False,
+        )
+    finally:
+        for stem in named:
+            (folder / f"{stem}.edit").unlink(missing_ok=True)
+    verdicts = verdicts_of(run.stdout, named)
+    for stem, bug in named.items():
+        print(f"{name}: {bug.text}: {verdicts.get(stem, 'not tried')}")
+    if len(verdicts) < len(named):
+        print(run.stdout[-2000:])
+    return all(verdicts.get(stem, "").startswith("refused") for stem in named)
+
+
+def main(words: list[str]) -> int:
+    """The exit status: 0, or 1 where a bug was not refused, or 2 where a list is wrong."""
+    parser = argparse.ArgumentParser(
+        description=__doc__, epilog=EXAMPLES, formatter_class=argparse.RawDescriptionHelpFormatter
+    )
+    commands = parser.add_subparsers(dest="command", required=True)
+    commands.add_parser("table", help="prints the lists as tables")
+    tries = commands.add_parser("try", help="plants bugs")
+    tries.add_argument("crate", nargs="+")
+    options = parser.parse_args(words)
+    try:
+        if options.command == "table":
+            print(table_of(TOP), end="")
+            return 0
+        return 0 if all([try_bugs(TOP, name) for name in options.crate]) else 1
+    except ListError as fault:
+        print(f"plant_bugs: {fault}", file=sys.stderr)
+        return 2
+
+
+if __name__ == "__main__":
+    sys.exit(main(sys.argv[1:]))
