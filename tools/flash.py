@@ -14,6 +14,8 @@ import uuid
 from dataclasses import dataclass
 from enum import Enum
 
+from decoding import DecodeError
+
 Variables = dict[str, str]
 """The values of variables by their names, in the order of their lines."""
 
@@ -67,15 +69,6 @@ class Fault(Enum):
     TOO_SMALL = "too small"
     NO_SLOT = "no slot"
     BAD_LINE = "bad line"
-
-
-class DecodeError(Exception):
-    """The fault of some bytes, with the numbers that belong to it by their names."""
-
-    def __init__(self, fault: Fault, **numbers: int) -> None:
-        super().__init__(fault.value)
-        self.fault = fault
-        self.numbers = numbers
 
 
 class EncodeError(ValueError):

@@ -8,7 +8,8 @@ from collections.abc import Mapping
 from pathlib import Path
 
 import flash
-from flash import DecodeError, Fault
+from decoding import DecodeError
+from flash import Fault
 from gpt import ONIE_BOOT, Entry
 from terminal import Lines, Paint, counted, size_text
 

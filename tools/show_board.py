@@ -11,6 +11,7 @@ from pathlib import Path
 import gpt
 import status
 import tlvinfo
+from decoding import DecodeError
 from disk_view import disk_lines
 from flash_view import Entries, flash_lines
 from terminal import Lines, Paint, counted, plain, size_text
@@ -51,7 +52,7 @@ def eeprom_lines(path: Path, paint: Paint) -> Lines:
     lines = [f"  {size_text(path.stat().st_size)}"]
     try:
         fields = tlvinfo.decode(eeprom)
-    except tlvinfo.DecodeError as error:
+    except DecodeError as error:
         return [*lines, "  " + paint.warning(f"no TlvInfo data: {error.fault.value}")]
     names = [tlvinfo.CODES[code].name if code in tlvinfo.CODES else "" for code, _ in fields]
     width = max(map(len, names), default=0)

@@ -14,6 +14,7 @@ from enum import Enum
 from typing import BinaryIO
 
 import flash
+from decoding import DecodeError
 from flash import Mode, Variables
 from gpt import ONIE_BOOT, SECTOR_SIZE, Entry, Table, Which, counting_table
 from onie_image import image_length
@@ -129,5 +130,5 @@ def variables_of(image: bytes) -> Variables:
     """The variables of a flash; NotSound where it has none."""
     try:
         return flash.read_flash(image).variables
-    except flash.DecodeError as error:
+    except DecodeError as error:
         raise NotSound(Lack.VARIABLES) from error

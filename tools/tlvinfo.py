@@ -12,6 +12,8 @@ import zlib
 from dataclasses import dataclass
 from enum import Enum
 
+from decoding import DecodeError
+
 Field = tuple[int, bytes]
 """The code and the value of one field."""
 
@@ -88,15 +90,6 @@ class Fault(Enum):
     AFTER_CRC = "after crc"
     NO_CRC = "no crc"
     CRC = "crc"
-
-
-class DecodeError(Exception):
-    """The first fault of some bytes, with the numbers that belong to it by their names."""
-
-    def __init__(self, fault: Fault, **numbers: int) -> None:
-        super().__init__(fault.value)
-        self.fault = fault
-        self.numbers = numbers
 
 
 class EncodeError(ValueError):

@@ -6,11 +6,11 @@ import unittest
 import uuid
 
 import flash
+from decoding import DecodeError
 from flash import (
     CONTENT_LIMIT,
     FLASH_SECTORS,
     SLOT_SIZE,
-    DecodeError,
     EncodeError,
     Fault,
     Flash,

@@ -4,10 +4,10 @@ import random
 import unittest
 import zlib
 
+from decoding import DecodeError
 from tlvinfo import (
     CODES,
     EEPROM_SIZE,
-    DecodeError,
     EncodeError,
     Fault,
     Field,

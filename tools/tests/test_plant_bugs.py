@@ -1,0 +1,180 @@
+"""The lists of planted bugs, and the script that plants them."""
+
+import contextlib
+import io
+import re
+import subprocess
+import tempfile
+import unittest
+from pathlib import Path
+from unittest.mock import patch
+
+import plant_bugs
+from plant_bugs import LISTS, TOP, Bug, Change, ListError, bug_of, bugs_of
+
+KEPT = "bug: reads one byte too few\ncall: Reader::read\nclause: `moved`\nedit: one_too_few"
+PLANTED = """\
+bug: a fault is swallowed
+call: Reader::read
+clause: `cause`
+strengthened: it said nothing of the count
+file: src/reader.rt
+old:     return Err(Fault);
+new:     return Ok(());
+file: src/reader.rt
+old: const SIZE: usize = 4;
+new: const SIZE: usize = 5;"""
+
+SOURCE = "const SIZE: usize = 4;\nfn read() {\n    return Err(Fault);\n}\n"
+
+
+def wrong_changes(folder: Path, bug: Bug) -> list[Change]:
+    """The changes whose old text doesn't stand once in what the earlier ones made."""
+    texts: dict[str, str] = {}
+    wrong = []
+    for change in bug.changes:
+        text = texts.get(change.file) or (folder / change.file).read_text(encoding="utf-8")
+        if text.count(change.old) != 1:
+            wrong.append(change)
+        texts[change.file] = text.replace(change.old, change.new)
+    return wrong
+
+
+class Lists(unittest.TestCase):
+    """The lists of the repository."""
+
+    def test_kept_edits(self) -> None:
+        """Each kept edit is in its crate's list once."""
+        for name in plant_bugs.crates(TOP):
+            with self.subTest(name):
+                bugs = bugs_of(TOP / LISTS / f"{name}.txt")
+                kept = sorted(bug.edit for bug in bugs if bug.edit)
+                files = (TOP / "crates" / name / "must-fail").glob("*.edit")
+                self.assertEqual(kept, sorted(path.stem for path in files))
+
+    def test_changes(self) -> None:
+        """What a bug changes stands once in the code."""
+        for name in plant_bugs.crates(TOP):
+            for bug in bugs_of(TOP / LISTS / f"{name}.txt"):
+                with self.subTest(name, bug=bug.text):
+                    self.assertEqual(wrong_changes(TOP / "crates" / name, bug), [])
+
+    def test_crates(self) -> None:
+        """Each crate that has wrong bodies has a list, and no other folder has one."""
+        edits = {path.parts[-3] for path in TOP.glob("crates/*/must-fail/*.edit")}
+        self.assertEqual(edits, {path.stem for path in (TOP / LISTS).glob("*.txt")})
+
+    def test_page(self) -> None:
+        page = (TOP / "docs/planted-bugs.md").read_text(encoding="utf-8")
+        self.assertTrue(page.endswith(plant_bugs.table_of(TOP)))
+
+
+class Parsing(unittest.TestCase):
+    def test_kept(self) -> None:
+        self.assertEqual(
+            bug_of(KEPT),
+            Bug("reads one byte too few", "Reader::read", "`moved`", edit="one_too_few"),
+        )
+
+    def test_planted(self) -> None:
+        bug = bug_of(PLANTED)
+        self.assertEqual(bug.strengthened, "it said nothing of the count")
+        self.assertEqual(
+            bug.changes,
+            (
+                Change("src/reader.rt", "    return Err(Fault);", "    return Ok(());"),
+                Change("src/reader.rt", "const SIZE: usize = 4;", "const SIZE: usize = 5;"),
+            ),
+        )
+
+    def test_wrong_bugs(self) -> None:
+        group = "file: a\nold: b\nnew: c"
+        for text, said in (
+            ("bug: a\ncall: b\nclause: c", "either an edit or its changes"),
+            (f"{KEPT}\n{group}", "either an edit or its changes"),
+            ("bug: a\ncall: b\nedit: c", "missing ['clause']"),
+            (f"{KEPT}\nkind: d", "unknown ['kind']"),
+            (f"{KEPT}\nedit: d", "a key comes twice"),
+            ("bug", "no key: 'bug'"),
+            (f"bug: a\ncall: b\nclause: c\n{group}\nfile: d", "no file, old and new"),
+            (f"bug: a\ncall: b\nclause: c\n{group.replace('c', 'b')}", "changes nothing: 'b'"),
+        ):
+            with self.subTest(text), self.assertRaisesRegex(ListError, re.escape(said)):
+                bug_of(text)
+
+
+class Planting(unittest.TestCase):
+    """Over a repository of one crate."""
+
+    def setUp(self) -> None:
+        folder = tempfile.TemporaryDirectory()
+        self.addCleanup(folder.cleanup)
+        self.top = Path(folder.name)
+        for path, text in (
+            ("crates.txt", "# all\nother:\nreader: other\n"),
+            ("crates/reader/src/reader.rt", SOURCE),
+            ("crates/reader/must-fail/one_too_few.edit", "kept"),
+            (f"{LISTS}/reader.txt", f"{KEPT}\n\n{PLANTED}\n"),
+        ):
+            (self.top / path).parent.mkdir(parents=True, exist_ok=True)
+            (self.top / path).write_text(text, encoding="utf-8")
+
+    def edits(self) -> dict[str, str]:
+        folder = self.top / "crates/reader/must-fail"
+        return {path.name: path.read_text(encoding="utf-8") for path in folder.iterdir()}
+
+    def plant(self, said: str) -> tuple[bool, str]:
+        """Whether all were refused, and what is printed, where the prover says this."""
+
+        def run(command: list[str], **_: object) -> subprocess.CompletedProcess[str]:
+            self.seen = self.edits()
+            self.assertEqual(command, ["rt", "must-fail", "reader"])
+            return subprocess.CompletedProcess(command, 0, stdout=said)
+
+        printed = io.StringIO()
+        with patch.object(subprocess, "run", run), contextlib.redirect_stdout(printed):
+            return plant_bugs.try_bugs(self.top, "reader"), printed.getvalue()
+
+    def test_refused(self) -> None:
+        said = "rt: must-fail reader/planted_01.edit: refused, as it must be: `returns`\n"
+        refused, printed = self.plant(said)
+        self.assertTrue(refused)
+        self.assertEqual(
+            printed,
+            "reader: a fault is swallowed: refused, as it must be: `returns`\n",
+        )
+        self.assertEqual(
+            self.seen,
+            {"one_too_few.edit": "kept", "planted_01.edit": PLANTED.partition("count\n")[2] + "\n"},
+        )
+        self.assertEqual(self.edits(), {"one_too_few.edit": "kept"})
+
+    def test_not_refused(self) -> None:
+        for said, verdict in (
+            ("rt: must-fail reader/planted_01.edit: NOT REFUSED", "NOT REFUSED"),
+            ("rt: reader is not proved", "not tried"),
+        ):
+            with self.subTest(said):
+                refused, printed = self.plant(said)
+                self.assertFalse(refused)
+                self.assertIn(f"reader: a fault is swallowed: {verdict}\n", printed)
+
+    def test_table(self) -> None:
+        self.assertEqual(
+            plant_bugs.table_of(self.top),
+            "## `reader`: 2\n\n"
+            "| Bug | Call | Refused by | Kept as |\n|---|---|---|---|\n"
+            "| reads one byte too few | `Reader::read` | `moved` | `one_too_few` |\n"
+            "| a fault is swallowed | `Reader::read` | `cause`; it said nothing of the count |  |\n",
+        )
+
+    def test_wrong_list(self) -> None:
+        (self.top / LISTS / "reader.txt").write_text("bug\n")
+        said = io.StringIO()
+        with patch.object(plant_bugs, "TOP", self.top), contextlib.redirect_stderr(said):
+            self.assertEqual(plant_bugs.main(["table"]), 2)
+        self.assertEqual(said.getvalue(), "plant_bugs: reader.txt: no key: 'bug'\n")
+
+
+if __name__ == "__main__":
+    unittest.main()
