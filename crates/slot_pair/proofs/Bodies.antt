@@ -8,14 +8,10 @@ use Rattle.bd_dev.specs.declared.plant.Area.{Area}
 use Rattle.bd_dev.specs.Content.{Image, window}
 use Rattle.bd_dev.proofs.Windows.{at_byte, get_or-window, length-window}
 use Rattle.plant_runs.specs.Touching.{AgreesOutside}
-use Rattle.slot_pair.specs.Body.{body_bytes, body_head}
+use Rattle.slot_pair.specs.Body.{Written, body_bytes, body_head}
 use Rattle.slot_pair.specs.Putting.{stored}
 use Rattle.storage_model.specs.Slots.{body, body_length, body_number}
 use Rattle.slot_pair.proofs.Frames.{body_fits}
-
--- the first n bytes from an offset on are those of a list, and zeros behind it
-abbrev pub Written : (ℕ → ℕ) → ℕ → List ℕ → ℕ → Type 0
-Written z at bytes n = (k : ℕ) → k < n → z (at + k) ≡ get_or bytes k 0
 
 -- one sector more
 pub written_more : (area : Area) (gate i n : ℕ) (bytes sector : List ℕ) (z w : Image) → n / 512 ≡ 1 → n ≡ 512

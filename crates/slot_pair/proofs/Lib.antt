@@ -8,3 +8,4 @@ mod OpenGates
 pub mod Pairs
 mod Puts
 mod Replacing
+mod Spelling

@@ -5,6 +5,7 @@ use Rattle.plant_runs.specs.Runs.{LeavesOnly, Looks}
 use Rattle.plant_runs.specs.Touching.{Touches}
 use Rattle.plant_runs.proofs.Joins.{leaves_now, leaves_then}
 use Rattle.plant_runs.proofs.Touch.{leaves_both, leaves_weaker, touch_now, touch_then}
+use Rattle.slot_pair.specs.Body.{IsSpelled}
 use Rattle.slot_pair.specs.Pair.{Fits, IsKept, Pair}
 use Rattle.slot_pair.specs.Putting.{IsEither, IsEitherOrNone, IsStored, Puts, stored, turned}
 use Rattle.slot_pair.proofs.Currents.{alone, beaten, by_pick, pick, same_current}
@@ -98,6 +99,18 @@ module _ (n : ℕ) (pair now : Pair) (is : pair ≡ now) (content : List ℕ) (g
 
   its_place : gate ≡ slot_lba n pair.base (not pair.second)
   its_place = place ∙ ap (λ (p : Pair). slot_lba n p.base (not p.second)) (sym is)
+
+  pub closing_few : (m : ℕ) → Touches now.area (slot_lba n now.base (not now.second)) (m + 1) u v
+  closing_few m = subst (λ (p : Pair). Touches p.area (slot_lba n p.base (not p.second)) (m + 1) u v) is
+      (touch_gate m pair.area _ u v (subst (λ (at : ℕ). Touches pair.area at 1 u v) its_place closing))
+
+  pub filling_few : (m : ℕ) (w : View) → Touches pair.area gate (m + 1) v w → Touches now.area (slot_lba n now.base (not now.second)) (m + 1) u w
+  filling_few m w filling = touch_then now.area _ (m + 1) u v w (closing_few m)
+      (subst (λ (p : Pair). Touches p.area (slot_lba n p.base (not p.second)) (m + 1) v w) is (subst (λ (at : ℕ). Touches pair.area at (m + 1) v w) its_place filling))
+
+  pub filling_bytes : (w : View) → IsSpelled (w.reads pair.area) gate (pair.number + 1) content → IsSpelled (w.reads now.area) (slot_lba n now.base (not now.second)) (now.number + 1) content
+  filling_bytes w spelled = subst (λ (p : Pair). IsSpelled (w.reads p.area) (slot_lba n p.base (not p.second)) (p.number + 1) content) is
+      (subst (λ (at : ℕ). IsSpelled (w.reads pair.area) at (pair.number + 1) content) its_place spelled)
 
   pub closing_puts : Puts n now content u v
   closing_puts = subst (λ (p : Pair). Puts n p content u v) is (puts_closing n pair content gate some u v its_synced its_fits its_place closing unwritten)

@@ -4,7 +4,7 @@ ghost use Rattle.std.specs.Prelude.{◌≡◌, ◌+◌, ◌*◌, ◌++◌, ◌<�
 ghost use Rattle.bd_dev.specs.Faults.{HasCause};
 ghost use Rattle.bd_dev.specs.Plant.{IsSynced};
 ghost use Rattle.plant_runs.specs.Touching.{Touches};
-ghost use Rattle.slot_pair.specs.Body.{body_head};
+ghost use Rattle.slot_pair.specs.Body.{Written, body_bytes, body_head, used_sectors};
 ghost use Rattle.slot_pair.specs.Putting.{stored};
 ghost use Rattle.storage_model.specs.Slots.{body};
 
@@ -63,8 +63,11 @@ pub(crate) fn write_body<P: Plant>(
     requires short { 12 + length content.now ≤ 512 * sectors }
     ensures body { (P.view plant.old).tells → OnOk result
         (body sectors ((P.view plant.new).reads area) gate ≡ stored number content.now) }
+    ensures bytes { (P.view plant.old).tells → OnOk result (Written ((P.view plant.new).reads area) (512 * (gate + 1))
+        (body_bytes number content.now) (512 * used_sectors (length content.now))) }
     ensures synced { (P.view plant.old).tells → OnOk result (IsSynced (P.view plant.new) area) }
     ensures touches { Touches area (gate + 1) sectors (P.view plant.old) (P.view plant.new) }
+    ensures few { Touches area (gate + 1) (used_sectors (length content.now)) (P.view plant.old) (P.view plant.new) }
     ensures cause { HasCause (P.view plant.old).faults (P.view plant.new).faults result }
 {
     let head = body_head(number, content.len() as u32);

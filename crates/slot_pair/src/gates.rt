@@ -1,7 +1,8 @@
 //! Gates: their closing and their opening.
 
-ghost use Rattle.std.specs.Prelude.{◌≡◌, ◌++◌, ◌<◌, ◌≤◌, OnOk, false, true, length, replicate, take};
+ghost use Rattle.std.specs.Prelude.{◌≡◌, ◌*◌, ◌++◌, ◌<◌, ◌≤◌, OnOk, false, true, length, replicate, take};
 ghost use Rattle.std.specs.Str.{bytes_eq};
+ghost use Rattle.bd_dev.specs.Content.{window};
 ghost use Rattle.bd_dev.specs.Faults.{HasCause};
 ghost use Rattle.bd_dev.specs.Plant.{IsSynced};
 ghost use Rattle.plant_runs.specs.Runs.{Looks};
@@ -28,6 +29,8 @@ pub(crate) fn close_gate<P: Plant>(plant: &mut P, area: Area, gate: u64) -> Resu
     requires room { gate < (P.view plant.old).size area }
     ensures closed { (P.view plant.old).tells → OnOk result
         (is_open_gate ((P.view plant.new).reads area) gate ≡ false) }
+    ensures zeros { (P.view plant.old).tells → is_open_gate ((P.view plant.old).reads area) gate ≡ true
+        → OnOk result (window ((P.view plant.new).reads area) (512 * gate) 512 ≡ replicate 512 0) }
     ensures synced { (P.view plant.old).tells → IsSynced (P.view plant.old) area
         → OnOk result (IsSynced (P.view plant.new) area) }
     ensures unwritten { (P.view plant.old).tells → is_open_gate ((P.view plant.old).reads area) gate ≡ false
@@ -57,6 +60,8 @@ pub(crate) fn open_gate<P: Plant>(plant: &mut P, area: Area, gate: u64) -> Resul
     requires room { gate < (P.view plant.old).size area }
     ensures opened { (P.view plant.old).tells → OnOk result
         (is_open_gate ((P.view plant.new).reads area) gate ≡ true) }
+    ensures bytes { (P.view plant.old).tells → OnOk result
+        (window ((P.view plant.new).reads area) (512 * gate) 512 ≡ open_word ++ replicate 504 0) }
     ensures synced { (P.view plant.old).tells → OnOk result (IsSynced (P.view plant.new) area) }
     ensures touches { Touches area gate 1 (P.view plant.old) (P.view plant.new) }
     ensures cause { HasCause (P.view plant.old).faults (P.view plant.new).faults result }

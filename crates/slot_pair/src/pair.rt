@@ -4,6 +4,8 @@ ghost use Rattle.std.specs.Prelude.{◌≡◌, ◌≢◌, ◌⊎◌, ◌↔◌, 
 ghost use Rattle.bd_dev.specs.Faults.{HasCause, HasCauseOr};
 ghost use Rattle.bd_dev.specs.Plant.{IsSynced};
 ghost use Rattle.plant_runs.specs.Runs.{Looks};
+ghost use Rattle.plant_runs.specs.Touching.{Touches};
+ghost use Rattle.slot_pair.specs.Body.{IsSpelled, used_sectors};
 ghost use Rattle.slot_pair.specs.Pair.{Fits, Pair};
 ghost use Rattle.slot_pair.specs.Putting.{Formats, IsStored, Puts, formatted, turned};
 ghost use Rattle.slot_pair.specs.declared.fault.SlotFault.TheVariants.{Fault, NoSlot};
@@ -144,6 +146,10 @@ impl<const N: usize> SlotPair<N> {
         ensures kept { OnErr result (self.new ≡ self.old) }
         ensures turned { OnOk result (self.new ≡ turned self.old) }
         ensures stored { OnOk result (IsStored N (P.view plant.new) self.new content.now) }
+        ensures bytes { (P.view plant.old).tells → OnOk result (IsSpelled ((P.view plant.new).reads self.old.area)
+            (slot_lba N self.old.base (not self.old.second)) (self.old.number + 1) content.now) }
+        ensures few { Touches self.old.area (slot_lba N self.old.base (not self.old.second))
+            (used_sectors (length content.now) + 1) (P.view plant.old) (P.view plant.new) }
         ensures puts { Puts N self.old content.now (P.view plant.old) (P.view plant.new) }
         ensures cause { HasCauseOr PutFault.Fault (P.view plant.old).faults (P.view plant.new).faults result }
     {
@@ -185,6 +191,8 @@ impl<const N: usize> SlotPair<N> {
         ensures never { result ≢ Err PutFault.SeqEnd }
         ensures made { IfOk result (λ pair. pair ≡ formatted area base) }
         ensures stored { IfOk result (λ pair. IsStored N (P.view plant.new) pair content.now) }
+        ensures bytes { (P.view plant.old).tells
+            → OnOk result (IsSpelled ((P.view plant.new).reads area) base 1 content.now) }
         ensures formats { Formats N area base content.now (P.view plant.old) (P.view plant.new) }
         ensures cause { HasCauseOr PutFault.Fault (P.view plant.old).faults (P.view plant.new).faults result }
     {

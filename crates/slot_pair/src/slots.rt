@@ -5,6 +5,7 @@ ghost use Rattle.bd_dev.specs.Faults.{HasCause};
 ghost use Rattle.bd_dev.specs.Plant.{IsSynced};
 ghost use Rattle.plant_runs.specs.Runs.{LeavesOnly};
 ghost use Rattle.plant_runs.specs.Touching.{Touches};
+ghost use Rattle.slot_pair.specs.Body.{IsSpelled, used_sectors};
 ghost use Rattle.slot_pair.specs.Putting.{IsEither, stored};
 ghost use Rattle.storage_model.specs.Slots.{current, is_open_gate, pair_sectors, slot, slot_lba};
 
@@ -42,10 +43,13 @@ pub(crate) fn fill_slot<P: Plant>(
     requires closed { (P.view plant.old).tells → is_open_gate ((P.view plant.old).reads area) gate ≡ false }
     ensures filled { (P.view plant.old).tells → OnOk result
         (slot sectors ((P.view plant.new).reads area) gate ≡ stored number content.now) }
+    ensures bytes { (P.view plant.old).tells → OnOk result
+        (IsSpelled ((P.view plant.new).reads area) gate number content.now) }
     ensures synced { (P.view plant.old).tells → OnOk result (IsSynced (P.view plant.new) area) }
     ensures crash { (P.view plant.old).tells → LeavesOnly (P.view plant.old) (P.view plant.new)
         (λ c. IsEither None (stored number content.now) (slot sectors (c area) gate)) }
     ensures touches { Touches area gate (sectors + 1) (P.view plant.old) (P.view plant.new) }
+    ensures few { Touches area gate (used_sectors (length content.now) + 1) (P.view plant.old) (P.view plant.new) }
     ensures cause { HasCause (P.view plant.old).faults (P.view plant.new).faults result }
 {
     write_body(plant, area, gate, sectors, number, content)?;

@@ -13,6 +13,7 @@ returns-in_err-write_sectors-clause-touches g c =
 pub sectors-preserved : goal.sectors-preserved
 sectors-preserved g c = record {
   touches = touch_then _ _ _ _ _ _ c.sectors.invariant.touches (touch_wider _ _ _ _ _ _ _ (omega arith) (omega (arith, c.body_sector-sector.ensures.size)) c.write_sectors.ensures.touches);
+  few = touch_then _ _ _ _ _ _ c.sectors.invariant.few (touch_wider _ _ _ _ _ _ _ (omega arith) (omega (arith, c.body_sector-sector.ensures.size)) c.write_sectors.ensures.touches);
   later = omega (arith, c.sectors.invariant.later, c.write_sectors.ensures.cause.later);
   written = λ tells.
       let now = c.sectors.invariant.touches.continues.still_tells tells in
@@ -32,3 +33,18 @@ returns-clause-body g c = λ tells.
     let now = c.sectors.invariant.touches.continues.still_tells tells in
     ap (λ (z : Image). body c.args.sectors (z c.args.area) c.args.gate) (c.sync_area.ensures.reads now)
     ∙ whole_body _ _ _ _ _ (512 * c.sectors.index) c.requires.short c.requires.few (omega arith) (omega arith) (c.sectors.invariant.written tells)
+
+pub returns-in_err-write_sectors-clause-few : goal.returns-in_err-write_sectors-clause-few
+returns-in_err-write_sectors-clause-few g c =
+    touch_then _ _ _ _ _ _ c.sectors.invariant.few (touch_wider _ _ _ _ _ _ _ (omega arith) (omega (arith, c.body_sector-sector.ensures.size)) c.write_sectors.ensures.touches)
+
+pub returns-in_err-sync_area-clause-few : goal.returns-in_err-sync_area-clause-few
+returns-in_err-sync_area-clause-few g c = touch_then _ _ _ _ _ _ c.sectors.invariant.few (touch_any _ _ _ _ _ _ c.sync_area.ensures.touches)
+
+pub returns-clause-few : goal.returns-clause-few
+returns-clause-few g c = touch_then _ _ _ _ _ _ c.sectors.invariant.few (touch_any _ _ _ _ _ _ c.sync_area.ensures.touches)
+
+pub returns-clause-bytes : goal.returns-clause-bytes
+returns-clause-bytes g c = λ tells.
+    let now = c.sectors.invariant.touches.continues.still_tells tells in
+    λ k lt. ap (λ (z : Image). z c.args.area (512 * (c.args.gate + 1) + k)) (c.sync_area.ensures.reads now) ∙ c.sectors.invariant.written tells k (omega arith)

@@ -30,3 +30,12 @@ pub returns-else-says_open-clause-closed : goal.returns-else-says_open-clause-cl
 returns-else-says_open-clause-closed g c = λ tells.
     ap (λ (z : Image). is_open_gate (z c.args.area) c.args.gate) (c.read_sectors.ensures.looks.told tells).only.reads
     ∙ gate_is _ _ 512 _ false (omega arith) (sym (c.in_ok-read_sectors.ensures.bytes tells)) (sym c.says_open.ensures ∙ c.if-says_open.false)
+
+pub returns-in_ok-write_through-clause-zeros : goal.returns-in_ok-write_through-clause-zeros
+returns-in_ok-write_through-clause-zeros g c = λ tells is_open. c.in_ok-write_through.ensures.bytes (c.read_sectors.ensures.looks.continues.still_tells tells)
+
+-- the gate was tested, so it reads closed
+pub returns-else-says_open-clause-zeros : goal.returns-else-says_open-clause-zeros
+returns-else-says_open-clause-zeros g c = λ tells is_open.
+    let shut = gate_is _ _ 512 _ false (omega arith) (sym (c.in_ok-read_sectors.ensures.bytes tells)) (sym c.says_open.ensures ∙ c.if-says_open.false) in
+    absurd (cc (shut, is_open))

@@ -1,5 +1,6 @@
 use Rattle.std.proofs.Common.{◌<◌, inl, arith}
 use Rattle.plant_runs.proofs.Touch.{leaves_weaker, touch_then}
+use Rattle.slot_pair.proofs.Spelling.{spelled}
 use Rattle.slot_pair.proofs.Replacing.{opened, then_opening, touch_body, touch_gate, while_opening, while_writing}
 use Rattle.slot_pair.proofs.slots.fill_slot.Goals as goal
 
@@ -38,3 +39,17 @@ returns-clause-crash g c = λ tells.
 
 pub returns-clause-touches : goal.returns-clause-touches
 returns-clause-touches g c = touch_then _ _ _ _ _ _ (touch_body _ _ _ _ _ c.write_body.ensures.touches) (touch_gate _ _ _ _ _ c.open_gate.ensures.touches)
+
+pub returns-in_err-write_body-clause-few : goal.returns-in_err-write_body-clause-few
+returns-in_err-write_body-clause-few g c = touch_body _ _ _ _ _ c.write_body.ensures.few
+
+pub returns-in_err-open_gate-clause-few : goal.returns-in_err-open_gate-clause-few
+returns-in_err-open_gate-clause-few g c = touch_then _ _ _ _ _ _ (touch_body _ _ _ _ _ c.write_body.ensures.few) (touch_gate _ _ _ _ _ c.open_gate.ensures.touches)
+
+pub returns-clause-few : goal.returns-clause-few
+returns-clause-few g c = touch_then _ _ _ _ _ _ (touch_body _ _ _ _ _ c.write_body.ensures.few) (touch_gate _ _ _ _ _ c.open_gate.ensures.touches)
+
+pub returns-clause-bytes : goal.returns-clause-bytes
+returns-clause-bytes g c = λ tells.
+    let now = c.write_body.ensures.touches.continues.still_tells tells in
+    spelled _ _ _ _ _ _ (c.in_ok-write_body.ensures.bytes tells) (c.open_gate.ensures.touches.told now) (c.in_ok-open_gate.ensures.bytes now)

@@ -22,3 +22,6 @@ pub returns-clause-stored : goal.returns-clause-stored
 returns-clause-stored g c =
     format_stored _ _ _ _ c.requires.some _ _ c.close_slots.ensures.touches c.close_slots.ensures.crash
     _ c.in_ok-close_slots.ensures.closed c.in_ok-close_slots.ensures.synced c.fill_slot.ensures.touches c.fill_slot.ensures.crash c.requires.room c.in_ok-fill_slot.ensures.filled c.in_ok-fill_slot.ensures.synced
+
+pub returns-clause-bytes : goal.returns-clause-bytes
+returns-clause-bytes g c = λ tells. c.in_ok-fill_slot.ensures.bytes (c.close_slots.ensures.touches.continues.still_tells tells)

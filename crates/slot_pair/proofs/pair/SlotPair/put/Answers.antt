@@ -1,4 +1,5 @@
-use Rattle.slot_pair.proofs.Puts.{closing_puts, filling_puts, filling_stores, puts_nothing}
+use Rattle.plant_runs.proofs.Touch.{touch_now}
+use Rattle.slot_pair.proofs.Puts.{closing_few, closing_puts, filling_bytes, filling_few, filling_puts, filling_stores, puts_nothing}
 use Rattle.slot_pair.proofs.pair.SlotPair.put.Goals as goal
 
 pub returns-then-is_too_long-clause-puts : goal.returns-then-is_too_long-clause-puts
@@ -25,3 +26,28 @@ pub returns-clause-stored : goal.returns-clause-stored
 returns-clause-stored g c =
     filling_stores _ _ _ c.self.view_is _ _ c.requires.some _ _ c.requires.synced c.requires.fits c.other_gate-gate.ensures c.close_gate.ensures.touches c.close_gate.ensures.unwritten
     _ c.fill_slot.ensures.touches c.fill_slot.ensures.crash c.in_ok-fill_slot.ensures.filled c.in_ok-fill_slot.ensures.synced
+
+pub returns-then-is_too_long-clause-few : goal.returns-then-is_too_long-clause-few
+returns-then-is_too_long-clause-few g c = touch_now _ _ _ _ (g.met.P.Plant.honest c.args.plant.now)
+
+pub returns-then-is_last-clause-few : goal.returns-then-is_last-clause-few
+returns-then-is_last-clause-few g c = touch_now _ _ _ _ (g.met.P.Plant.honest c.args.plant.now)
+
+pub returns-in_err-close_gate-clause-few : goal.returns-in_err-close_gate-clause-few
+returns-in_err-close_gate-clause-few g c =
+    closing_few _ _ _ c.self.view_is c.args.content.now _ c.requires.some _ _ c.requires.synced c.requires.fits c.other_gate-gate.ensures c.close_gate.ensures.touches c.close_gate.ensures.unwritten _
+
+pub returns-in_err-fill_slot-clause-few : goal.returns-in_err-fill_slot-clause-few
+returns-in_err-fill_slot-clause-few g c =
+    filling_few _ _ _ c.self.view_is c.args.content.now _ c.requires.some _ _ c.requires.synced c.requires.fits c.other_gate-gate.ensures c.close_gate.ensures.touches c.close_gate.ensures.unwritten _
+    _ c.fill_slot.ensures.few
+
+pub returns-clause-few : goal.returns-clause-few
+returns-clause-few g c =
+    filling_few _ _ _ c.self.view_is c.args.content.now _ c.requires.some _ _ c.requires.synced c.requires.fits c.other_gate-gate.ensures c.close_gate.ensures.touches c.close_gate.ensures.unwritten _
+    _ c.fill_slot.ensures.few
+
+pub returns-clause-bytes : goal.returns-clause-bytes
+returns-clause-bytes g c = λ tells.
+    filling_bytes _ _ _ c.self.view_is c.args.content.now _ c.requires.some _ _ c.requires.synced c.requires.fits c.other_gate-gate.ensures c.close_gate.ensures.touches c.close_gate.ensures.unwritten (g.P.Plant.view c.fill_slot.new.plant)
+    (c.in_ok-fill_slot.ensures.bytes (c.close_gate.ensures.touches.continues.still_tells tells))
