@@ -93,7 +93,7 @@ fn a_variable_is_set_in_its_place_or_behind_all_others(rt: HostRuntime) -> Resul
     ];
     for case in cases {
         assert!(rt; case.text.len() < 100);
-        let mut plant = SimPlant::new(rt.alloc(), &[], &flash(case.text), &[])?;
+        let mut plant = SimPlant::new(rt.alloc(), &[], &flash(rt.alloc(), case.text)?, &[])?;
         let change = Change {
             name: case.name,
             value: case.value,
@@ -129,7 +129,7 @@ fn a_change_is_refused_by_the_first_reason(rt: HostRuntime) -> Result<(), Fail> 
     ];
     for case in cases {
         assert!(rt; case.text.len() < 100);
-        let mut plant = SimPlant::new(rt.alloc(), &[], &flash(case.text), &[])?;
+        let mut plant = SimPlant::new(rt.alloc(), &[], &flash(rt.alloc(), case.text)?, &[])?;
         let change = Change {
             name: case.name,
             value: case.value,
@@ -146,14 +146,17 @@ fn a_change_is_refused_by_the_first_reason(rt: HostRuntime) -> Result<(), Fail> 
     ];
     for (text, name, value) in fitting {
         assert!(rt; text.len() < 100);
-        let mut plant = SimPlant::new(rt.alloc(), &[], &flash(text), &[])?;
+        let mut plant = SimPlant::new(rt.alloc(), &[], &flash(rt.alloc(), text)?, &[])?;
         let change = Change {
             name,
             value: Some(value),
         };
         assert_eq!(rt; make(&mut plant, change), Ok(()));
         let text = text_of(rt.alloc(), &mut plant)?;
-        assert_eq!(rt; text.len(), name.len() + value.len() + 2);
+        assert_eq!(rt;
+            text.len(),
+            name.len().saturating_add(value.len()).saturating_add(2)
+        );
     }
     Ok(())
 }
@@ -170,7 +173,7 @@ fn no_put_follows_the_greatest_number(rt: HostRuntime) -> Result<(), Fail> {
     ];
     for case in cases {
         assert!(rt; case.text.len() < 100);
-        let mut flash = flash(b"");
+        let mut flash = flash(rt.alloc(), b"")?;
         put(&mut flash, 17, u64::MAX, case.text);
         let mut plant = SimPlant::new(rt.alloc(), &[], &flash, &[])?;
         let change = Change {
@@ -185,7 +188,7 @@ fn no_put_follows_the_greatest_number(rt: HostRuntime) -> Result<(), Fail> {
 
 #[test]
 fn what_may_be_set_is_told(rt: HostRuntime) -> Result<(), Fail> {
-    let mut plant = SimPlant::new(rt.alloc(), &[], &flash(b"a=1\0"), &[])?;
+    let mut plant = SimPlant::new(rt.alloc(), &[], &flash(rt.alloc(), b"a=1\0")?, &[])?;
     let vars = BootVars::open(&mut plant)?;
     assert_eq!(rt; vars.may_set(b"a", b"2"), Ok(()));
     assert_eq!(rt; vars.may_set(b"a.", b"2"), Err(VarFault::BadName));
@@ -201,7 +204,7 @@ fn a_set_calls_the_plant_no_more_than_it_must(rt: HostRuntime) -> Result<(), Fai
     let value = [b'v'; 2000];
     for (length, sectors) in [(0, 1), (497, 1), (498, 2), (1009, 2), (1010, 3), (2000, 4)] {
         let (value, _) = value.split_at(length);
-        let mut plant = SimPlant::new(rt.alloc(), &[], &flash(b""), &[])?;
+        let mut plant = SimPlant::new(rt.alloc(), &[], &flash(rt.alloc(), b"")?, &[])?;
         let change = Change {
             name: b"a",
             value: Some(value),
@@ -227,7 +230,12 @@ fn a_change_follows_one_that_failed(rt: HostRuntime) -> Result<(), Fail> {
         value: None,
     };
     for call in 1..=9 {
-        let mut plant = SimPlant::new(rt.alloc(), &[], &flash(b"a=1\0b=1\0"), &[call])?;
+        let mut plant = SimPlant::new(
+            rt.alloc(),
+            &[],
+            &flash(rt.alloc(), b"a=1\0b=1\0")?,
+            &[call],
+        )?;
         assert_eq!(rt;
             make(&mut plant, first),
             Err(VarFault::Fault),

@@ -1,18 +1,21 @@
 //! Texts of variables that stand here as the format has them, in the flash of a plant in memory.
 
-ghost use Rattle.std.specs.Prelude.{◌≡◌, ◌*◌, ◌+◌, ◌≤◌, length};
+ghost use Rattle.std.specs.Prelude.{◌≡◌, ◌*◌, ◌+◌, ◌≤◌, length, IfOk};
 
 use super::*;
 use bd_sim::SimPlant;
 use bd_text::Guid;
+use std::alloc::Global;
 use std::test::Fail;
 
 const OPEN: &[u8; 8] = b"ONIEOPEN";
 
 /// Makes the slot whose gate is in this sector, with an open gate.
-pub(crate) fn put(flash: &mut [u8; 17408], gate: usize, number: u64, text: &[u8])
+pub(crate) fn put(flash: &mut [u8], gate: usize, number: u64, text: &[u8])
+    requires size { length flash.old ≡ 17408 }
     requires room { 512 * gate + 8704 ≤ 17408 }
     requires short { length text.now ≤ 8180 }
+    ensures { length flash.new ≡ 17408 }
 {
     let at = 512 * gate;
     flash[at..at + 8].copy_from_slice(OPEN);
@@ -22,20 +25,23 @@ pub(crate) fn put(flash: &mut [u8; 17408], gate: usize, number: u64, text: &[u8]
 }
 
 /// A flash of 34 sectors, whose second slot holds the text, and whose first one is closed.
-pub(crate) fn flash(text: &[u8]) -> [u8; 17408]
+pub(crate) fn flash(alloc: Global, text: &[u8]) -> Result<Vec<u8>, Fail>
     requires { length text.now ≤ 8180 }
-    ensures { length result ≡ 17408 }
+    ensures { IfOk result (λ flash. length flash.items ≡ 17408) }
 {
-    let mut flash = [0; 17408];
+    let mut flash = [0; 512].as_slice().repeat(alloc, 34)?;
+    if flash.len() != 17408 {
+        return Err(Fail::new("a size"));
+    }
     put(&mut flash, 17, 9, text);
-    flash
+    Ok(flash)
 }
 
 /// Opens the variables of this text.
 fn open(rt: &HostRuntime, text: &[u8]) -> Result<Result<BootVars, VarsFault>, Fail>
     requires { length text.now ≤ 8180 }
 {
-    let mut plant = SimPlant::new(rt.alloc(), &[], &flash(text), &[])?;
+    let mut plant = SimPlant::new(rt.alloc(), &[], &flash(rt.alloc(), text)?, &[])?;
     Ok(BootVars::open(&mut plant))
 }
 
@@ -212,7 +218,7 @@ fn a_system_is_named(rt: HostRuntime) -> Result<(), Fail> {
 
 #[test]
 fn the_current_slot_alone_is_read(rt: HostRuntime) -> Result<(), Fail> {
-    let mut flash = flash(b"bad\0");
+    let mut flash = flash(rt.alloc(), b"bad\0")?;
     put(&mut flash, 0, 8, b"good=1\0");
     let mut plant = SimPlant::new(rt.alloc(), &[], &flash, &[])?;
     assert!(rt;
@@ -234,7 +240,7 @@ fn the_current_slot_alone_is_read(rt: HostRuntime) -> Result<(), Fail> {
 
 #[test]
 fn a_call_that_fails_is_a_fault(rt: HostRuntime) -> Result<(), Fail> {
-    let flash = flash(b"a=1\0");
+    let flash = flash(rt.alloc(), b"a=1\0")?;
     for call in 1..=3 {
         let mut plant = SimPlant::new(rt.alloc(), &[], &flash, &[call])?;
         assert!(rt;
