@@ -13,7 +13,7 @@ use Rattle.plant_runs.specs.Touching.{Touches}
 use Rattle.plant_runs.proofs.Joins.{leaves_then, reads_then}
 use Rattle.plant_runs.proofs.Touch.{leaves_weaker, reads_weaker}
 use Rattle.storage_model.specs.Disk.{copy_lba, copy_of, table_of}
-use Rattle.gpt_table.specs.Copies.{IsCopyWritten}
+use Rattle.gpt_table.specs.Copies.{IsCopyWritten, IsPrimaryFirst}
 use Rattle.gpt_table.proofs.CopyRuns.{copies_then, other_agrees, other_stands, touches_copies}
 use Rattle.gpt_table.proofs.Finding.{table_backup, table_primary}
 
@@ -25,6 +25,7 @@ IsReplaced size before t c = IsCleanBetween size before t c × IsEitherTable siz
 pub record Replaces (size : ℕ) (before t : Table) (u v : View) : Type 0 where
   pub crash : LeavesOnly u v (λ c. IsCleanBetween size before t c → IsEitherTable size before t c)
   pub between : ReadsOnly u v (IsReplaced size before t)
+  pub ordered : LeavesOnly u v (IsPrimaryFirst size before t)
 
 -- what a write of a copy ensures of the view
 pub record Writes (which : Which) (size : ℕ) (t : Table) (u v : View) : Type 0 where
@@ -57,6 +58,7 @@ module _ (size : ℕ) (before t : Table) (large : 68 ≤ size) where
     between = reads_weaker u v _ _ (writes.between tells) (λ c. ⊎_elim
         (λ same. subst (IsReplaced size before t) (sym same) (read_as u.reads before before is.primary is.backup (inl refl) (inl refl)))
         (λ wrote. read_as c t before wrote.inside (other_agrees Primary size large u.reads c wrote.outside ∙ is.backup) (inr refl) (inl refl)));
+    ordered = leaves_weaker u v _ _ (writes.touches.told tells).crash (λ c keeps. inl (other_stands Primary size large u c synced keeps ∙ is.backup));
   }
 
   -- while the backup is written
@@ -67,12 +69,14 @@ module _ (size : ℕ) (before t : Table) (large : 68 ≤ size) where
     between = reads_weaker v w _ _ (writes.between tells) (λ c. ⊎_elim
         (λ same. subst (IsReplaced size before t) (sym same) (read_as v.reads t before p b (inr refl) (inl refl)))
         (λ wrote. read_as c t t (other_agrees Backup size large v.reads c wrote.outside ∙ p) wrote.inside (inr refl) (inr refl)));
+    ordered = leaves_weaker v w _ _ (writes.touches.told tells).crash (λ c keeps. inr (other_stands Backup size large v c (λ s un. absurd (synced s un)) keeps ∙ p));
   }
 
   pub replaces_then : (u v w : View) → Replaces size before t u v → Replaces size before t v w → Replaces size before t u w
   replaces_then u v w first second = record {
     crash = leaves_then u v w _ _ first.crash second.crash (λ c is. is);
     between = reads_then u v w _ _ first.between second.between (λ c is. is);
+    ordered = leaves_then u v w _ _ first.ordered second.ordered (λ c is. is);
   }
 
 -- the primary is written over u, which leaves v

@@ -1,5 +1,5 @@
 -- One of the two copies, written while the other stands.
-use Rattle.std.specs.Prelude.{◌≡◌, ℕ, Some}
+use Rattle.std.specs.Prelude.{◌≡◌, ◌⊎◌, ℕ, Some}
 use Rattle.bd_dev.specs.Content.{Image}
 use Rattle.bd_dev.specs.declared.plant.Area.TheVariants.{Disk}
 use Rattle.gpt_copy.specs.declared.table.Table.{Table}
@@ -12,6 +12,10 @@ use Rattle.storage_model.specs.Disk.{copy_lba, copy_of}
 abbrev pub other_copy : Which → Which
 other_copy Primary = Backup
 other_copy Backup = Primary
+
+-- while the table is replaced: the backup is what it was, or the primary is the new table already
+abbrev pub IsPrimaryFirst : ℕ → Table → Table → Image → Type 0
+IsPrimaryFirst size old new c = (copy_of Backup size (c Disk) ≡ Some old) ⊎ (copy_of Primary size (c Disk) ≡ Some new)
 
 -- this copy was written over z, and reads as the table
 pub record IsCopyWritten (which : Which) (size : ℕ) (table : Table) (z c : Image) : Type 0 where

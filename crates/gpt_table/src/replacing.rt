@@ -8,6 +8,7 @@ ghost use Rattle.cuts.specs.Copies.{AreCopiesSynced, IsCleanBetween, IsEitherTab
 ghost use Rattle.gpt_copy.specs.declared.table.Table.{Table};
 ghost use Rattle.gpt_copy.specs.Copy.{FitsDisk};
 ghost use Rattle.plant_runs.specs.Runs.{LeavesOnly, ReadsOnly};
+ghost use Rattle.gpt_table.specs.Copies.{IsPrimaryFirst};
 
 use crate::copies::write_table;
 use bd_dev::{Area, Failed, Plant};
@@ -32,6 +33,8 @@ pub fn replace<P: Plant>(plant: &mut P, table: &Table) -> Result<(), Failed>
     ensures between { (P.view plant.old).tells → (before : Table) → ReadsBoth ((P.view plant.old).size Disk) ((P.view plant.old).reads Disk) before
         → ReadsOnly (P.view plant.old) (P.view plant.new) (λ c. IsCleanBetween ((P.view plant.old).size Disk) before table.now c
         × IsEitherTable ((P.view plant.old).size Disk) before table.now c) }
+    ensures ordered { (P.view plant.old).tells → (before : Table) → ReadsBoth ((P.view plant.old).size Disk) ((P.view plant.old).reads Disk) before
+        → LeavesOnly (P.view plant.old) (P.view plant.new) (IsPrimaryFirst ((P.view plant.old).size Disk) before table.now) }
     ensures touches { TouchesCopies (P.view plant.old) (P.view plant.new) }
     ensures synced { (P.view plant.old).tells → OnOk result (IsSynced (P.view plant.new) Disk) }
     ensures both { (P.view plant.old).tells → OnOk result

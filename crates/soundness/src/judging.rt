@@ -1,6 +1,6 @@
 //! The tests of a board, in their order.
 
-ghost use Rattle.std.specs.Prelude.{◌≡◌, ◌⊎◌, ◌↔◌, ◌-◌, None, Some, Err, IfOk, IfSome, IsTrue};
+ghost use Rattle.std.specs.Prelude.{◌≡◌, ◌≢◌, ◌⊎◌, ◌↔◌, ◌-◌, None, Some, Err, IfOk, IfSome, IsTrue};
 ghost use Rattle.bd_dev.specs.declared.plant.Area.TheVariants.{Disk, Flash};
 ghost use Rattle.bd_dev.specs.Faults.{HasCause, HasCauseOr};
 ghost use Rattle.boot_vars.specs.Vars.{FitsVars};
@@ -92,6 +92,7 @@ pub fn judge_table<P: Plant>(plant: &mut P, table: &Table) -> Result<(), JudgeFa
     ensures sound { (P.view plant.old).tells → IfOk result (λ _. IsSoundTable ((P.view plant.old).reads Disk) table.now) }
     ensures sane { IfOk result (λ _. IsSane table.now) }
     ensures unsound { (P.view plant.old).tells → (kind : SoundKind) → result ≡ Err (JudgeFault.NotSound kind) → IsTableFault (P.view plant.old).size (P.view plant.old).reads table.now kind }
+    ensures no_variables { result ≢ Err (JudgeFault.NotSound SoundKind.NoVars) }
     ensures looks { Looks (P.view plant.old) (P.view plant.new) }
     ensures cause { HasCauseOr JudgeFault.Fault (P.view plant.old).faults (P.view plant.new).faults result }
 {
