@@ -1,13 +1,13 @@
 //! The changes of a board's variables: each is one effect.
 
-ghost use Rattle.std.specs.Prelude.{◌≡◌, ◌≢◌, ◌-◌, ℕ, List, None, Err, IsSome, OnOk, length, take};
+ghost use Rattle.std.specs.Prelude.{◌≡◌, ◌≢◌, ◌-◌, ℕ, List, None, Err, IsOk, IsSome, IsTrue, OnOk, length, take};
 ghost use Rattle.bd_dev.specs.Faults.{HasCauseOr};
 ghost use Rattle.boot_vars.specs.Setting.{changed, put_refusal, set_refusal, unset_refusal, with_variable, without};
 ghost use Rattle.boot_vars.specs.Vars.{AreVars};
 ghost use Rattle.cuts.specs.declared.effect.Effect.TheVariants.{Vars as SetVars};
 ghost use Rattle.board.specs.Changes.{Does, IsAnswer, Nothing, of_var_refusal};
 ghost use Rattle.board.specs.Held.{IsLive, Keeps};
-ghost use Rattle.storage_model.specs.Variables.{Spells, Variable, lines_of, value_among};
+ghost use Rattle.storage_model.specs.Variables.{Spells, Variable, is_name, lines_of, value_among};
 
 use crate::board::Board;
 use crate::fault::BoardFault;
@@ -51,6 +51,8 @@ impl<'a, P: Plant> Board<'a, P> {
             → IsAnswer (of_var_refusal (unset_refusal vs self.old.held.vars.pair.number name.now)) result }
         ensures absent { (vs : List Variable) → Spells self.old.held.vars.text vs → value_among vs name.now ≡ None
             → Nothing (self.new.plant.now ≡ self.old.plant.now) self.old.held self.new.held }
+        ensures done { (vs : List Variable) → Spells self.old.held.vars.text vs → value_among vs name.now ≡ None
+            → IsTrue (is_name name.now) → IsOk result }
         ensures effect { (vs : List Variable) → Spells self.old.held.vars.text vs → IsSome (value_among vs name.now)
             → Does (SetVars (lines_of (without vs name.now))) (self.new.plant.now ≡ self.old.plant.now) result self.old.held self.new.held }
         ensures vars { (vs : List Variable) → Spells self.old.held.vars.text vs → IsSome (value_among vs name.now) → OnOk result

@@ -1,8 +1,8 @@
-use Rattle.std.proofs.Common.{inl, Option, Ok, Err, refl, ap, subst}
+use Rattle.std.proofs.Common.{◌≡◌, ◌∙◌, inl, None, Some, Option, Ok, Err, refl, ap, subst}
 use Rattle.boot_vars.specs.declared.fault.VarFault.{VarFault}
 use Rattle.board.specs.Changes.{IsAnswer, of_var_refusal}
 use Rattle.board.proofs.Keeping.{keeps_now}
-use Rattle.board.proofs.VariableChanges.{refused_answer, refused_effect}
+use Rattle.board.proofs.VariableChanges.{absent_refusal, refused_answer, refused_effect}
 use Rattle.board.proofs.board.Board.unset_var.Goals as goal
 
 pub returns-in_err-length-clause-answer : goal.returns-in_err-length-clause-answer
@@ -24,3 +24,8 @@ returns-in-None-clause-answer g c = λ vs spells.
 pub returns-in-None-clause-keeps : goal.returns-in-None-clause-keeps
 returns-in-None-clause-keeps g c =
     keeps_now (g.P.Plant.view c.args.self.now.plant.now) c.args.self.now.held (g.met.P.Plant.honest c.args.self.now.plant.now) c.requires.live
+
+pub returns-in_err-length-clause-done : goal.returns-in_err-length-clause-done
+returns-in_err-length-clause-done g c = λ vs spells none named.
+    let same : Some c.in_err-length.field-0.0 ≡ None = c.in_err-length.ensures.refusal vs spells ∙ absent_refusal vs _ _ none named in
+    cc
