@@ -1,5 +1,5 @@
 -- What a file of a local medium is fetched as.
-use Rattle.std.specs.Prelude.{◌≤◌, ◌<◌, ℕ, nat_lt, if◌then◌else◌, List, length, Option, Some, None}
+use Rattle.std.specs.Prelude.{◌≡◌, ◌≤◌, ◌<◌, ℕ, nat_lt, if◌then◌else◌, List, length, Option, Some, None}
 use Rattle.find_fetch.specs.declared.fetched.Fetched.{Fetched}
 use Rattle.find_fetch.specs.declared.fetched.Fetched.TheVariants.{Body, Miss}
 use Rattle.find_fetch.specs.declared.fetched.Miss.TheVariants as misses
@@ -12,6 +12,12 @@ longest = 33554432
 abbrev pub local_of : Option (List ℕ) → Fetched
 local_of None = Miss misses.NoFile
 local_of (Some bytes) = if nat_lt longest (length bytes) then Miss misses.TooLarge else Body bytes
+
+-- of a file of which this length was found: it gave all of it, or ended early
+abbrev pub IsOfLength : ℕ → Fetched → Type 0
+IsOfLength want (Body bytes) = length bytes ≡ want
+IsOfLength want (Miss (misses.Short found got)) = (found ≡ want) × (got < want)
+IsOfLength want (Miss miss) = ⊥
 
 -- Of media that tell nothing: a body is no longer than an installer may be, and a file ended early where fewer bytes
 -- came than were found, which were no more than an installer may have.
