@@ -10,3 +10,4 @@ pub mod Scripts
 pub mod Asked
 pub mod Finding
 pub mod Nearby
+pub mod Statuses

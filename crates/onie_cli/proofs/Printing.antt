@@ -11,25 +11,25 @@ use Rattle.onie_cli.specs.Fields.{RefusesUnreadable}
 use Rattle.onie_cli.specs.Refusal.{refusal_line_of}
 use Rattle.bd_dev.proofs.Lines.{Appends-front}
 
-prints_line : (text : List ℕ) (status : Status) (old mid new : Option (List ℕ)) → ComesSoFar text status old mid → (status ≢ statuses.SinkFault → Appends mid new (refusal_line_of status)) → AppendsFront mid new (refusal_line_of status) → Prints text status old new
-prints_line text (statuses.Done outcome) old mid new h line front = record { mid = mid; so_far = h; line = line (λ e. cc) }
-prints_line text statuses.Usage old mid new h line front = record { mid = mid; so_far = h; line = line (λ e. cc) }
-prints_line text (statuses.NotSound kind) old mid new h line front = record { mid = mid; so_far = h; line = line (λ e. cc) }
-prints_line text statuses.PlantFault old mid new h line front = record { mid = mid; so_far = h; line = line (λ e. cc) }
-prints_line text (statuses.BadEeprom kind) old mid new h line front = record { mid = mid; so_far = h; line = line (λ e. cc) }
-prints_line text statuses.EepromFault old mid new h line front = record { mid = mid; so_far = h; line = line (λ e. cc) }
-prints_line text statuses.MediaFault old mid new h line front = record { mid = mid; so_far = h; line = line (λ e. cc) }
-prints_line text statuses.SourceFault old mid new h line front = record { mid = mid; so_far = h; line = line (λ e. cc) }
-prints_line text (statuses.BadScript number kind) old mid new h line front = record { mid = mid; so_far = h; line = line (λ e. cc) }
-prints_line text statuses.SinkFault old mid new h line front = record { mid = mid; status = statuses.SinkFault; so_far = h; front = front }
-prints_line text (statuses.Refused kind) old mid new h line front = record { mid = mid; so_far = h; line = line (λ e. cc) }
-prints_line text statuses.Memory old mid new h line front = record { mid = mid; so_far = h; line = line (λ e. cc) }
+prints_line : (MayEnd : Status → Type 0) (text : List ℕ) (status : Status) (old mid new : Option (List ℕ)) → MayEnd status → ComesSoFar text status old mid → (status ≢ statuses.SinkFault → Appends mid new (refusal_line_of status)) → AppendsFront mid new (refusal_line_of status) → Prints MayEnd text status old new
+prints_line MayEnd text (statuses.Done outcome) old mid new may h line front = record { mid = mid; so_far = h; line = line (λ e. cc) }
+prints_line MayEnd text statuses.Usage old mid new may h line front = record { mid = mid; so_far = h; line = line (λ e. cc) }
+prints_line MayEnd text (statuses.NotSound kind) old mid new may h line front = record { mid = mid; so_far = h; line = line (λ e. cc) }
+prints_line MayEnd text statuses.PlantFault old mid new may h line front = record { mid = mid; so_far = h; line = line (λ e. cc) }
+prints_line MayEnd text (statuses.BadEeprom kind) old mid new may h line front = record { mid = mid; so_far = h; line = line (λ e. cc) }
+prints_line MayEnd text statuses.EepromFault old mid new may h line front = record { mid = mid; so_far = h; line = line (λ e. cc) }
+prints_line MayEnd text statuses.MediaFault old mid new may h line front = record { mid = mid; so_far = h; line = line (λ e. cc) }
+prints_line MayEnd text statuses.SourceFault old mid new may h line front = record { mid = mid; so_far = h; line = line (λ e. cc) }
+prints_line MayEnd text (statuses.BadScript number kind) old mid new may h line front = record { mid = mid; so_far = h; line = line (λ e. cc) }
+prints_line MayEnd text statuses.SinkFault old mid new may h line front = record { mid = mid; status = statuses.SinkFault; may = may; so_far = h; front = front }
+prints_line MayEnd text (statuses.Refused kind) old mid new may h line front = record { mid = mid; so_far = h; line = line (λ e. cc) }
+prints_line MayEnd text statuses.Memory old mid new may h line front = record { mid = mid; so_far = h; line = line (λ e. cc) }
 
 -- a reported status is that status, or the console's fault
-pub prints : (text : List ℕ) (status result : Status) (old mid new : Option (List ℕ)) → ComesSoFar text status old mid → (result ≡ status) ⊎ (result ≡ statuses.SinkFault) → (result ≢ statuses.SinkFault → Appends mid new (refusal_line_of status)) → AppendsFront mid new (refusal_line_of status)
-    → Prints text result old new
-prints text status result old mid new h (inl same) line front = subst (λ s. Prints text s old new) (sym same) (prints_line text status old mid new h (λ other. line (λ e. other (let f : status ≡ statuses.SinkFault = cc in f))) front)
-prints text status result old mid new h (inr sunk) line front = subst (λ s. Prints text s old new) (sym sunk) (record { mid = mid; status = status; so_far = h; front = front })
+pub prints : (MayEnd : Status → Type 0) (text : List ℕ) (status result : Status) (old mid new : Option (List ℕ)) → MayEnd status → ComesSoFar text status old mid → (result ≡ status) ⊎ (result ≡ statuses.SinkFault) → (result ≢ statuses.SinkFault → Appends mid new (refusal_line_of status)) → AppendsFront mid new (refusal_line_of status)
+    → Prints MayEnd text result old new
+prints MayEnd text status result old mid new may h (inl same) line front = subst (λ s. Prints MayEnd text s old new) (sym same) (prints_line MayEnd text status old mid new may h (λ other. line (λ e. other (let f : status ≡ statuses.SinkFault = cc in f))) front)
+prints MayEnd text status result old mid new may h (inr sunk) line front = subst (λ s. Prints MayEnd text s old new) (sym sunk) (record { mid = mid; status = status; may = may; so_far = h; front = front })
 
 -- what holds of the status and of the console's fault holds of the reported status
 pub reported : (P : Status → Type 0) (status result : Status) → P status → P statuses.SinkFault → (result ≡ status) ⊎ (result ≡ statuses.SinkFault) → P result

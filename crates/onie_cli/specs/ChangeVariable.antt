@@ -148,4 +148,4 @@ pub record MakesChange (change : Change) (old new : View) (status : Status) : Ty
 -- what a command does that makes a change; it prints nothing but a refusal's line
 pub record ChangesVariable (change : Change) (old new : View) (status : Status) (taken now : Option (List ℕ)) : Type 0 where
   pub makes : MakesChange change old new status
-  pub console : Prints [] status taken now
+  pub console : Prints IsChangeAnswer [] status taken now

@@ -19,14 +19,15 @@ pub record EndsWith (text : List ℕ) (status : Status) (old new : Option (List 
   pub so_far : ComesSoFar text status old mid
   pub line : Appends mid new (refusal_line_of status)
 
--- the console failed: it took a front of what it takes where the call ends with another status
-pub record BreaksOff (text : List ℕ) (old new : Option (List ℕ)) : Type 0 where
+-- the console failed: it took a front of what it takes where the call ends with another status, one that it may end with
+pub record BreaksOff (MayEnd : Status → Type 0) (text : List ℕ) (old new : Option (List ℕ)) : Type 0 where
   pub mid : Option (List ℕ)
   pub status : Status
+  pub may : MayEnd status
   pub so_far : ComesSoFar text status old mid
   pub front : AppendsFront mid new (refusal_line_of status)
 
 -- what the console took of a call that ended with the status
-abbrev pub Prints : List ℕ → Status → Option (List ℕ) → Option (List ℕ) → Type 0
-Prints text statuses.SinkFault old new = BreaksOff text old new
-Prints text status old new = EndsWith text status old new
+abbrev pub Prints : (Status → Type 0) → List ℕ → Status → Option (List ℕ) → Option (List ℕ) → Type 0
+Prints MayEnd text statuses.SinkFault old new = BreaksOff MayEnd text old new
+Prints MayEnd text status old new = EndsWith text status old new

@@ -3,7 +3,7 @@
 ghost use Rattle.std.specs.Prelude.{◌≡◌, ◌≢◌, ◌≤◌, List, IfErr, IsErrAnd, OnOk};
 ghost use Rattle.bd_dev.specs.Faults.{Rose};
 ghost use Rattle.tlvinfo.specs.TlvInfo.{Field};
-ghost use Rattle.onie_cli.specs.EepromSet.{IsChangeRefusal, IsRefusedChange, IsAfterRefusedChange, IsStorable, IsAfterStorable, RefusesChange, AllowsChange, StoresChange};
+ghost use Rattle.onie_cli.specs.EepromSet.{IsChangeRefusal, IsRefusedChange, IsAfterRefusedChange, IsStorable, IsAfterStorable, IsEepromSetAnswer, RefusesChange, AllowsChange, StoresChange};
 ghost use Rattle.onie_cli.specs.Fields.{RefusesUnreadable};
 ghost use Rattle.std.specs.Option.{ForSome};
 
@@ -48,11 +48,13 @@ pub(crate) fn set_field<E: Eeprom>(alloc: Global, eeprom: &mut E, code: u8, text
     ensures no_media { result ≢ Status.MediaFault }
     ensures no_source { result ≢ Status.SourceFault }
     ensures no_sink { result ≢ Status.SinkFault }
+    ensures answer { IsEepromSetAnswer result }
     ensures unreadable { RefusesUnreadable (E.content eeprom.old) result }
     ensures reason { (kind : RefusedKind) → result ≡ Status.Refused kind → ForSome (E.content eeprom.old) (λ bytes. RefusesChange code text.now bytes kind) }
     ensures refused { ForSome (E.content eeprom.old) (λ bytes. (kind : RefusedKind) → RefusesChange code text.now bytes kind → IsAfterRefusedChange kind result) }
     ensures storable { ForSome (E.content eeprom.old) (λ bytes. (changed : List Field) → AllowsChange code text.now bytes changed → IsAfterStorable result) }
     ensures stored { result ≡ Status.Done Outcome.Stored → ForSome (E.content eeprom.old) (λ bytes. StoresChange code text.now bytes (E.content eeprom.new)) }
+    ensures unchanged { ForSome (E.content eeprom.old) (λ bytes. ((changed : List Field) → ¬ AllowsChange code text.now bytes changed) → E.content eeprom.new ≡ E.content eeprom.old) }
     ensures kept { result ≢ Status.Done Outcome.Stored → result ≢ Status.EepromFault → E.content eeprom.new ≡ E.content eeprom.old }
 {
     let mut info = match load_info(alloc, eeprom) {

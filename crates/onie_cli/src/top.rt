@@ -8,8 +8,8 @@ ghost use Rattle.plant_runs.specs.Runs.{Looks};
 ghost use Rattle.tlvinfo.specs.TlvInfo.{Field, Tlv};
 ghost use Rattle.onie_cli.specs.ChangeVariable.{ChangesVariable, set_change, unset_change};
 ghost use Rattle.onie_cli.specs.Console.{ComesSoFar, Prints};
-ghost use Rattle.onie_cli.specs.Discover.{Discovers, Finds, IsDiscoverText, PrintsBoard};
-ghost use Rattle.onie_cli.specs.Eeprom.{IsAfterFields, IsFieldsText, PrintsEeprom, PrintsFields};
+ghost use Rattle.onie_cli.specs.Discover.{Discovers, Finds, IsDiscoverAnswer, IsDiscoverText, PrintsBoard};
+ghost use Rattle.onie_cli.specs.Eeprom.{IsAfterFields, IsEepromAnswer, IsFieldsText, PrintsEeprom, PrintsFields};
 ghost use Rattle.onie_cli.specs.EepromSet.{SetsField};
 ghost use Rattle.onie_cli.specs.Fields.{RefusesUnreadable};
 ghost use Rattle.onie_cli.specs.Refusal.{refusal_line_of};
@@ -55,6 +55,7 @@ fn discover<E: Eeprom, M: Media, S: Source, C: Sink, T: Sink>(
     ensures source_later { S.faults script.old ≤ S.faults script.new }
     ensures sink_later { C.faults console.old ≤ C.faults console.new }
     ensures trace_later { T.faults trace.old ≤ T.faults trace.new }
+    ensures answer { IsDiscoverAnswer (Rose (M.faults media.old) (M.faults media.new)) result }
     ensures finds { Finds (E.content eeprom.old) (S.left script.old) (M.content media.old) result }
     ensures read_out { result ≡ Status.Done Outcome.Printed → S.left script.new ≡ emptied (S.left script.old) }
     ensures printed { result ≡ Status.Done Outcome.Printed → ForSome (E.content eeprom.old) (λ bytes.
@@ -90,6 +91,7 @@ fn print_eeprom<E: Eeprom, C: Sink>(alloc: Global, eeprom: &mut E, console: &mut
     ensures no_plant { result ≢ Status.PlantFault }
     ensures no_media { result ≢ Status.MediaFault }
     ensures no_source { result ≢ Status.SourceFault }
+    ensures answer { IsEepromAnswer result }
     ensures unreadable { RefusesUnreadable (E.content eeprom.old) result }
     ensures readable { ForSome (E.content eeprom.old) (λ bytes. (fields : List Field) → Tlv bytes fields → IsAfterFields result) }
     ensures printed { result ≡ Status.Done Outcome.Printed → ForSome (E.content eeprom.old) (λ bytes. PrintsFields bytes (C.taken console.old) (C.taken console.new)) }
@@ -166,7 +168,8 @@ pub fn onie<P: Plant, E: Eeprom, M: Media, S: Source, C: Sink, T: Sink>(
 
     // What each command does.
     ensures status { IsStatus (map string_bytes words.now) → ShowsStatus (P.view plant.old) result (C.taken console.old) (C.taken console.new) }
-    ensures discover { IsDiscover (map string_bytes words.now) → Discovers (E.content eeprom.old) (S.left script.old) (S.left script.new) (M.content media.old) result (C.taken console.old) (C.taken console.new) }
+    ensures discover { IsDiscover (map string_bytes words.now) → Discovers (Rose (M.faults media.old) (M.faults media.new))
+        (E.content eeprom.old) (S.left script.old) (S.left script.new) (M.content media.old) result (C.taken console.old) (C.taken console.new) }
     ensures eeprom { IsEeprom (map string_bytes words.now) → PrintsEeprom (E.content eeprom.old) result (C.taken console.old) (C.taken console.new) }
     ensures eeprom_set { (code : ℕ) (text : List ℕ) → IsEepromSet (map string_bytes words.now) code text
         → SetsField code text (E.content eeprom.old) (E.content eeprom.new) result (C.taken console.old) (C.taken console.new) }

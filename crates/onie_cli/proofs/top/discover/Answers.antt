@@ -1,9 +1,10 @@
-use Rattle.std.proofs.Common.{List, refl, subst, ◌∙◌}
+use Rattle.std.proofs.Common.{List, Err, ap, refl, subst, ◌∙◌}
 use Rattle.bd_dev.specs.Rows.{Row}
 use Rattle.bd_dev.specs.Sink.{Appends, AppendsFront}
 use Rattle.tlvinfo.specs.IdentityView.{board_of}
 use Rattle.onie_cli.specs.Discover.{discover_text}
 use Rattle.onie_cli.proofs.Finding.{finds_no_board, finds_no_net, finds_run, text_of}
+use Rattle.onie_cli.proofs.Statuses.{load_answer, net_answer}
 use Rattle.onie_cli.proofs.top.discover.Goals as goal
 
 pub returns-in-Err-clause-finds : goal.returns-in-Err-clause-finds
@@ -66,3 +67,9 @@ returns-clause-console g c = λ text is.
     subst (AppendsFront (g.C.Sink.taken c.args.console.now) (g.C.Sink.taken c.print_candidates.new.console))
     (text_of _ _ _ text is (board_of c.in-Ok.identity) _ plays.0 c.in-Ok.ensures.found plays.1 plays.2)
     (c.in-Err-Memory.ensures.front is.volumes (c.in-Ok-open_net.ensures.kept ∙ is.media_told))
+
+pub returns-in-Err-clause-answer : goal.returns-in-Err-clause-answer
+returns-in-Err-clause-answer g c = load_answer _ _ c.in-Err.status c.in-Err.ensures.refused
+
+pub returns-in-Err-open_net-clause-answer : goal.returns-in-Err-open_net-clause-answer
+returns-in-Err-open_net-clause-answer g c = net_answer _ _ _ c.in-Err-open_net.status (λ e. c.in-Err-open_net.ensures.media (ap Err e)) c.in-Err-open_net.ensures.refused

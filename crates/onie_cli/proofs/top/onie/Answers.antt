@@ -1,13 +1,14 @@
 use Rattle.std.proofs.Common.{◌≡◌, ◌⊎◌, ℕ, List, Bor, [], refl, sym, ap, subst, ◌∙◌}
+use Rattle.bd_dev.specs.Faults.{Rose}
 use Rattle.plant_runs.proofs.Joins.{looks_now}
 use Rattle.onie_cli.specs.declared.status.Outcome.TheVariants as outcomes
 use Rattle.onie_cli.specs.declared.status.Status.TheVariants as statuses
 use Rattle.onie_cli.specs.ChangeVariable.{IsChangeAnswer, MakesChange, set_change, unset_change}
 use Rattle.onie_cli.specs.Console.{ComesSoFar}
-use Rattle.onie_cli.specs.Discover.{PrintsBoard}
-use Rattle.onie_cli.specs.Eeprom.{IsAfterFields, PrintsFields}
+use Rattle.onie_cli.specs.Discover.{IsDiscoverAnswer, PrintsBoard}
+use Rattle.onie_cli.specs.Eeprom.{IsAfterFields, IsEepromAnswer, PrintsFields}
 use Rattle.onie_cli.specs.ShowStatus.{IsAfterSound, IsAfterUnsound, IsStatusAnswer, PrintsHeld}
-use Rattle.onie_cli.specs.EepromSet.{IsAfterRefusedChange, IsAfterStorable, StoresChange}
+use Rattle.onie_cli.specs.EepromSet.{IsAfterRefusedChange, IsAfterStorable, IsEepromSetAnswer, StoresChange}
 use Rattle.onie_cli.proofs.Printing.{comes-nothing, done-same, prints, reported, reported-back, unreadable-reported}
 use Rattle.onie_cli.proofs.ChangeVariableLemmas.{makes_reported}
 use Rattle.onie_cli.proofs.Finding.{finds_reported}
@@ -157,7 +158,8 @@ returns-clause-status g c = λ words. elim c.match-read_words.branch [
             subst (PrintsHeld (g.P.Plant.view c.args.plant.now) (g.C.Sink.taken c.args.console.now)) (sym (same ∙ ap g.C.Sink.taken w.console-is)) (d.printed t done);
         console = λ text t is.
             let so_far : ComesSoFar text c.match-read_words.status (g.C.Sink.taken c.args.console.now) (g.C.Sink.taken c.match-read_words.console) = rw (w.status-is, w.console-is) (d.console text t is) in
-            prints text _ _ _ _ _ so_far c.report.ensures.answer c.report.ensures.written c.report.ensures.front;
+            let may : IsStatusAnswer c.match-read_words.status = rw w.status-is d.answer in
+            prints IsStatusAnswer text _ _ _ _ _ may so_far c.report.ensures.answer c.report.ensures.written c.report.ensures.front;
       }
   | in-Some-Discover w ↦ absurd (let e = sym w.in-Some-Discover.field-0-is ∙ asked_status _ w.in-Some-Discover.field-0 words w.in-Some-Discover.ensures in cc)
   | in-Some-Eeprom w ↦ absurd (let e = sym w.in-Some-Eeprom.field-0-is ∙ asked_status _ w.in-Some-Eeprom.field-0 words w.in-Some-Eeprom.ensures in cc)
@@ -174,6 +176,9 @@ returns-clause-discover g c = λ words. elim c.match-read_words.branch [
       let d = w.discover-status.ensures in
       let answer : (c.report.result ≡ w.discover-status.result) ⊎ (c.report.result ≡ statuses.SinkFault) = rw (← w.status-is) c.report.ensures.answer in
       record {
+        answer =
+            let told : IsDiscoverAnswer (Rose (g.M.Media.faults c.args.media.now) (g.M.Media.faults c.match-read_words.media)) w.discover-status.result = rw w.media-is d.answer in
+            reported (IsDiscoverAnswer (Rose (g.M.Media.faults c.args.media.now) (g.M.Media.faults c.match-read_words.media))) w.discover-status.result c.report.result told tt answer;
         finds = finds_reported _ _ _ w.discover-status.result c.report.result d.finds answer;
         read_out = λ e.
             let done = reported-back w.discover-status.result c.report.result (statuses.Done outcomes.Printed) (λ f. cc) answer e in
@@ -184,7 +189,8 @@ returns-clause-discover g c = λ words. elim c.match-read_words.branch [
             subst (PrintsBoard bytes (g.S.Source.left c.args.script.now) (g.M.Media.content c.args.media.now) (g.C.Sink.taken c.args.console.now)) (sym (same ∙ ap g.C.Sink.taken w.console-is)) (d.printed done bytes told);
         console = λ text is.
             let so_far : ComesSoFar text c.match-read_words.status (g.C.Sink.taken c.args.console.now) (g.C.Sink.taken c.match-read_words.console) = rw (w.status-is, w.console-is) (d.console text is) in
-            prints text _ _ _ _ _ so_far c.report.ensures.answer c.report.ensures.written c.report.ensures.front;
+            let may : IsDiscoverAnswer (Rose (g.M.Media.faults c.args.media.now) (g.M.Media.faults c.match-read_words.media)) c.match-read_words.status = rw (w.status-is, w.media-is) d.answer in
+            prints (IsDiscoverAnswer (Rose (g.M.Media.faults c.args.media.now) (g.M.Media.faults c.match-read_words.media))) text _ _ _ _ _ may so_far c.report.ensures.answer c.report.ensures.written c.report.ensures.front;
       }
   | in-Some-Eeprom w ↦ absurd (let e = sym w.in-Some-Eeprom.field-0-is ∙ asked_discover _ w.in-Some-Eeprom.field-0 words w.in-Some-Eeprom.ensures in cc)
   | in-Some-EepromSet w ↦ absurd (let e = sym w.in-Some-EepromSet.field-0-is ∙ asked_discover _ w.in-Some-EepromSet.field-0 words w.in-Some-EepromSet.ensures in cc)
@@ -201,6 +207,7 @@ returns-clause-eeprom g c = λ words. elim c.match-read_words.branch [
       let d = w.print_eeprom-status.ensures in
       let answer : (c.report.result ≡ w.print_eeprom-status.result) ⊎ (c.report.result ≡ statuses.SinkFault) = rw (← w.status-is) c.report.ensures.answer in
       record {
+        answer = reported IsEepromAnswer w.print_eeprom-status.result c.report.result d.answer tt answer;
         unreadable = unreadable-reported _ w.print_eeprom-status.result c.report.result d.unreadable answer;
         readable = λ bytes told fields h. reported IsAfterFields w.print_eeprom-status.result c.report.result (d.readable bytes told fields h) tt answer;
         printed = λ e bytes told.
@@ -209,7 +216,8 @@ returns-clause-eeprom g c = λ words. elim c.match-read_words.branch [
             subst (PrintsFields bytes (g.C.Sink.taken c.args.console.now)) (sym (same ∙ ap g.C.Sink.taken w.console-is)) (d.printed done bytes told);
         console = λ bytes told text is.
             let so_far : ComesSoFar text c.match-read_words.status (g.C.Sink.taken c.args.console.now) (g.C.Sink.taken c.match-read_words.console) = rw (w.status-is, w.console-is) (d.console bytes told text is) in
-            prints text _ _ _ _ _ so_far c.report.ensures.answer c.report.ensures.written c.report.ensures.front;
+            let may : IsEepromAnswer c.match-read_words.status = rw w.status-is d.answer in
+            prints IsEepromAnswer text _ _ _ _ _ may so_far c.report.ensures.answer c.report.ensures.written c.report.ensures.front;
       }
   | in-Some-EepromSet w ↦ absurd (let e = sym w.in-Some-EepromSet.field-0-is ∙ asked_eeprom _ w.in-Some-EepromSet.field-0 words w.in-Some-EepromSet.ensures in cc)
   | in-Some-Set w ↦ absurd (let e = sym w.in-Some-Set.field-0-is ∙ asked_eeprom _ w.in-Some-Set.field-0 words w.in-Some-Set.ensures in cc)
@@ -231,16 +239,19 @@ returns-clause-eeprom_set g c = λ code text words. elim c.match-read_words.bran
       let held : w.in-Some-EepromSet.text ≡ asked.0 = cc in
       let same_text : w.in-Some-EepromSet.text.now ≡ text = ap (λ (t : Bor (List ℕ)). t.now) held ∙ sym asked.2 in
       rw (← same_code, ← same_text) (record {
+        answer = reported IsEepromSetAnswer w.set_field-status.result c.report.result d.answer tt answer;
         unreadable = unreadable-reported _ w.set_field-status.result c.report.result d.unreadable answer;
         reason = λ kind e. d.reason kind (reported-back w.set_field-status.result c.report.result (statuses.Refused kind) (λ f. cc) answer e);
         refused = λ bytes told kind h. reported (IsAfterRefusedChange kind) w.set_field-status.result c.report.result (d.refused bytes told kind h) tt answer;
         storable = λ bytes told changed h. reported IsAfterStorable w.set_field-status.result c.report.result (d.storable bytes told changed h) tt answer;
+        unchanged = rw w.eeprom-is d.unchanged;
         stored = λ e bytes told.
             subst (λ (eeprom : g.row.E.Denot). StoresChange w.in-Some-EepromSet.code w.in-Some-EepromSet.text.now bytes (g.E.Eeprom.content eeprom)) (sym w.eeprom-is)
             (d.stored (reported-back w.set_field-status.result c.report.result (statuses.Done outcomes.Stored) (λ f. cc) answer e) bytes told);
         console =
             let so_far : ComesSoFar [] c.match-read_words.status (g.C.Sink.taken c.args.console.now) (g.C.Sink.taken c.match-read_words.console) = rw w.console-is (comes-nothing c.match-read_words.status (g.C.Sink.taken c.args.console.now)) in
-            prints [] _ _ _ _ _ so_far c.report.ensures.answer c.report.ensures.written c.report.ensures.front;
+            let may : IsEepromSetAnswer c.match-read_words.status = rw w.status-is d.answer in
+            prints IsEepromSetAnswer [] _ _ _ _ _ may so_far c.report.ensures.answer c.report.ensures.written c.report.ensures.front;
       })
   | in-Some-Set w ↦ absurd (let e = sym w.in-Some-Set.field-0-is ∙ (asked_set _ w.in-Some-Set.field-0 code text words w.in-Some-Set.ensures).1 in cc)
   | in-Some-Unset w ↦ absurd (let e = sym w.in-Some-Unset.field-0-is ∙ (asked_set _ w.in-Some-Unset.field-0 code text words w.in-Some-Unset.ensures).1 in cc)
@@ -268,7 +279,8 @@ returns-clause-set g c = λ name value words. elim c.match-read_words.branch [
             (subst (λ (p : g.row.P.Denot). MakesChange (set_change (record { name = w.in-Some-Set.name.now; value = w.in-Some-Set.value.now })) (g.P.Plant.view c.args.plant.now) (g.P.Plant.view p) w.set_variable-status.result) (sym w.plant-is) d.makes) answer;
         console =
             let so_far : ComesSoFar [] c.match-read_words.status (g.C.Sink.taken c.args.console.now) (g.C.Sink.taken c.match-read_words.console) = rw w.console-is (comes-nothing c.match-read_words.status (g.C.Sink.taken c.args.console.now)) in
-            prints [] _ _ _ _ _ so_far c.report.ensures.answer c.report.ensures.written c.report.ensures.front;
+            let may : IsChangeAnswer c.match-read_words.status = rw w.status-is d.makes.answer in
+            prints IsChangeAnswer [] _ _ _ _ _ may so_far c.report.ensures.answer c.report.ensures.written c.report.ensures.front;
       })
   | in-None w ↦ absurd (w.in-None.ensures.no_set name value words)
 ]
@@ -292,7 +304,8 @@ returns-clause-unset g c = λ name words. elim c.match-read_words.branch [
             (subst (λ (p : g.row.P.Denot). MakesChange (unset_change w.in-Some-Unset.name.now) (g.P.Plant.view c.args.plant.now) (g.P.Plant.view p) w.unset_variable-status.result) (sym w.plant-is) d.makes) answer;
         console =
             let so_far : ComesSoFar [] c.match-read_words.status (g.C.Sink.taken c.args.console.now) (g.C.Sink.taken c.match-read_words.console) = rw w.console-is (comes-nothing c.match-read_words.status (g.C.Sink.taken c.args.console.now)) in
-            prints [] _ _ _ _ _ so_far c.report.ensures.answer c.report.ensures.written c.report.ensures.front;
+            let may : IsChangeAnswer c.match-read_words.status = rw w.status-is d.makes.answer in
+            prints IsChangeAnswer [] _ _ _ _ _ may so_far c.report.ensures.answer c.report.ensures.written c.report.ensures.front;
       })
   | in-None w ↦ absurd (w.in-None.ensures.no_unset name words)
 ]

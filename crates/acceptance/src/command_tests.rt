@@ -2,12 +2,12 @@
 
 ghost use Rattle.std.specs.Prelude.{◌≤◌, length};
 
-use super::*;
 use bd_dev::{
     Bytes, DevFault, Eeprom, Failed, Media, MemEeprom, MemMedia, MemSink, MemSource, Names,
 };
 use bd_sim::SimPlant;
 use net_script::ScriptKind;
+use onie_cli::{EepromKind, Outcome, RefusedKind, SoundKind, Status, onie};
 use std::alloc::Global;
 use std::test::Fail;
 use tlvinfo::{IdentFault, TlvKind};

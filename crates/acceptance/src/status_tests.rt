@@ -2,9 +2,10 @@
 
 ghost use Rattle.std.specs.Prelude.{◌≤◌};
 
-use super::*;
-use bd_dev::{MemEeprom, MemMedia, MemSink, MemSource};
+use crate::calls::run;
+use bd_dev::MemSink;
 use bd_sim::SimPlant;
+use onie_cli::{Outcome, SoundKind, Status};
 use std::alloc::Global;
 use std::process::Abort;
 use std::test::Fail;
@@ -191,24 +192,7 @@ fn status(
     plant: &mut SimPlant,
     console_fails: u64,
 ) -> Result<(Status, MemSink), Fail> {
-    let mut words = Vec::new(alloc);
-    words.push(String::from_str(alloc, "status")?)?;
-    let mut eeprom = MemEeprom::new(alloc, b"", &[1])?;
-    let mut media = MemMedia::new(alloc, &[1])?;
-    let mut console = MemSink::new(alloc, &[console_fails])?;
-    let mut script = MemSource::new(alloc, b"", &[1])?;
-    let mut trace = MemSink::new(alloc, &[1])?;
-    let status = onie(
-        alloc,
-        &words,
-        plant,
-        &mut eeprom,
-        &mut media,
-        &mut script,
-        &mut console,
-        &mut trace,
-    );
-    Ok((status, console))
+    run(alloc, plant, &["status"], console_fails)
 }
 
 /// Whether `status` answers this and prints these parts.

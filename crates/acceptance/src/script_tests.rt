@@ -1,9 +1,9 @@
 //! `discover` over the script of a network: which scripts are played, and how others are refused.
 
-use super::*;
 use bd_dev::{MemEeprom, MemMedia, MemSink, MemSource, Source};
 use bd_sim::SimPlant;
 use net_script::ScriptKind;
+use onie_cli::{EepromKind, Outcome, Status, onie};
 use std::alloc::Global;
 use std::test::Fail;
 use tlvinfo::TlvKind;
@@ -13,6 +13,13 @@ const BOARD: &[u8] =
 
 /// A line behind a comment, which serves the file `img`.
 const SERVES: &str = "# one\ntftp * 10.0.0.1:69 img img 10\n";
+
+/// A script whose line 100 is wrong.
+const FAR: &str = "\
+\n\n\n\n\n\n\n\n\n\n\n\n\n\n\n\n\n\n\n\n\n\n\n\n\n\n\n\n\n\n\n\n\n\
+\n\n\n\n\n\n\n\n\n\n\n\n\n\n\n\n\n\n\n\n\n\n\n\n\n\n\n\n\n\n\n\n\n\
+\n\n\n\n\n\n\n\n\n\n\n\n\n\n\n\n\n\n\n\n\n\n\n\n\n\n\n\n\n\n\n\n\n\
+flow 0 x";
 
 /// What a call takes and leaves.
 #[derive(Drop)]
@@ -86,7 +93,7 @@ miss file://usb0/onie-installer.bin: no file\n\
 /// Scripts that are refused: the line, what is wrong with it, and what is printed.
 #[test]
 fn a_wrong_script_is_refused(rt: HostRuntime) -> Result<(), Fail> {
-    let rows: [(&str, u32, ScriptKind, &str); 12] = [
+    let rows: [(&str, u32, ScriptKind, &str); 15] = [
         (
             "hello\n",
             1,
@@ -148,6 +155,25 @@ fn a_wrong_script_is_refused(rt: HostRuntime) -> Result<(), Fail> {
             ScriptKind::NoFlow,
             "onie: script line 5: no flow\n",
         ),
+        // Numbers of one, two and three digits.
+        (
+            "\n\n\n\n\n\n\n\niface",
+            9,
+            ScriptKind::Missing,
+            "onie: script line 9: missing\n",
+        ),
+        (
+            "\n\n\n\n\n\n\n\n\niface a b",
+            10,
+            ScriptKind::Extra,
+            "onie: script line 10: extra\n",
+        ),
+        (
+            FAR,
+            100,
+            ScriptKind::Number,
+            "onie: script line 100: number\n",
+        ),
         // The first wrong line decides, and a wrong line comes before a file that is lacking.
         (
             "at 5 end\nhello\n",
@@ -185,34 +211,6 @@ fn a_script_is_played(rt: HostRuntime) -> Result<(), Fail> {
         assert_eq!(rt; devices.console.as_slice(), LISTED.as_bytes());
         assert_eq!(rt; devices.trace.as_slice(), b"".as_slice());
         assert_eq!(rt; devices.script.read(&mut [0; 8])?, 0);
-    }
-    Ok(())
-}
-
-/// The line of each kind, in that of a status.
-#[test]
-fn each_kind_has_its_line(rt: HostRuntime) -> Result<(), Fail> {
-    let rows: [(u32, ScriptKind, &str); 10] = [
-        (0, ScriptKind::TooLong, "onie: script line 0: too long\n"),
-        (1, ScriptKind::Unknown, "onie: script line 1: unknown\n"),
-        (9, ScriptKind::Missing, "onie: script line 9: missing\n"),
-        (10, ScriptKind::Extra, "onie: script line 10: extra\n"),
-        (99, ScriptKind::Number, "onie: script line 99: number\n"),
-        (100, ScriptKind::Hex, "onie: script line 100: hex\n"),
-        (
-            4_294_967_295,
-            ScriptKind::Address,
-            "onie: script line 4294967295: address\n",
-        ),
-        (8, ScriptKind::Iface, "onie: script line 8: iface\n"),
-        (7, ScriptKind::NoFlow, "onie: script line 7: no flow\n"),
-        (6, ScriptKind::NoBody, "onie: script line 6: no body\n"),
-    ];
-    for (line, kind, text) in rows {
-        let mut console = MemSink::new(rt.alloc(), &[])?;
-        let status = Status::BadScript { line, kind };
-        assert_eq!(rt; crate::refusal::report(&mut console, status), status);
-        assert_eq!(rt; console.as_slice(), text.as_bytes());
     }
     Ok(())
 }

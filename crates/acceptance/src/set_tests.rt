@@ -2,9 +2,9 @@
 
 ghost use Rattle.std.specs.Prelude.{◌≡◌, IfOk, length};
 
-use super::*;
-use bd_dev::{MemEeprom, MemMedia, MemSink, MemSource};
+use crate::calls::run;
 use bd_sim::SimPlant;
+use onie_cli::{Outcome, RefusedKind, SoundKind, Status};
 use std::alloc::Global;
 use std::test::Fail;
 
@@ -25,35 +25,6 @@ fn flash(alloc: Global, number: u64, text: &[u8]) -> Result<Vec<u8>, Fail>
 }
 
 const INSTALL: &[u8] = b"onie_boot_reason=install\0";
-
-/// What a line of words answers over the plant, and what the console took. The console's call of the number fails.
-fn run(
-    alloc: Global,
-    plant: &mut SimPlant,
-    line: &[&str],
-    console_fails: u64,
-) -> Result<(Status, MemSink), Fail> {
-    let mut words = Vec::new(alloc);
-    for word in line {
-        words.push(String::from_str(alloc, word)?)?;
-    }
-    let mut eeprom = MemEeprom::new(alloc, b"", &[1])?;
-    let mut media = MemMedia::new(alloc, &[1])?;
-    let mut console = MemSink::new(alloc, &[console_fails])?;
-    let mut script = MemSource::new(alloc, b"", &[1])?;
-    let mut trace = MemSink::new(alloc, &[1])?;
-    let status = onie(
-        alloc,
-        &words,
-        plant,
-        &mut eeprom,
-        &mut media,
-        &mut script,
-        &mut console,
-        &mut trace,
-    );
-    Ok((status, console))
-}
 
 /// Whether the flash keeps this text.
 fn keeps(plant: &mut SimPlant, text: &[u8]) -> Result<bool, Fail> {
