@@ -1,4 +1,4 @@
-"""Plants the bugs that docs/planted-bugs/ lists, one at a time, and tells whether the prover refuses each.
+"""Plants the bugs that docs/planted-bugs/ lists, and tells whether the prover refuses each.
 
 A crate's list is docs/planted-bugs/CRATE.txt. A bug has these lines, and an empty line ends it:
 
@@ -13,20 +13,25 @@ In place of the last line it may have the edit itself, in one or more such group
   file: a file of the crate
   old: a line's text that stands there once
   new: what is to stand in its place
+
+docs/planted-bugs/untried/CRATE.txt lists likewise the bugs that are written but were not tried yet.
 """
 
 from __future__ import annotations
 
 import argparse
 import re
+import shutil
 import subprocess
 import sys
+import tempfile
 from collections.abc import Iterator
 from dataclasses import dataclass
 from pathlib import Path
 
 TOP = Path(__file__).resolve().parents[1]
 LISTS = "docs/planted-bugs"
+UNTRIED = "docs/planted-bugs/untried"
 PREFIX = "planted_"
 """How the names of edits begin that stand in must-fail/ while they are tried."""
 
@@ -34,6 +39,8 @@ EXAMPLES = """\
 examples:
   plant_bugs.py table               prints the tables of docs/planted-bugs.md
   plant_bugs.py try board cuts      plants the bugs of two crates that aren't kept as edits
+  plant_bugs.py together board      the same in few checks: bugs of different functions at once
+  plant_bugs.py together --untried board
 """
 
 
@@ -157,32 +164,126 @@ def verdicts_of(output: str, bugs: dict[str, Bug]) -> dict[str, str]:
     return {name: verdict for name, verdict in said if name in bugs}
 
 
-def try_bugs(top: Path, name: str) -> bool:
-    """Plants a crate's bugs that no kept edit has; whether each was refused."""
-    planted = [bug for bug in bugs_of(top / LISTS / f"{name}.txt") if bug.changes]
+def try_bugs(top: Path, name: str, lists: str = LISTS) -> bool:
+    """Plants a crate's bugs that no kept edit has, one at a time; whether each was refused."""
+    planted = [bug for bug in bugs_of(top / lists / f"{name}.txt") if bug.changes]
     named = {f"{PREFIX}{number:02}": bug for number, bug in enumerate(planted, 1)}
     folder = top / "crates" / name / "must-fail"
     folder.mkdir(exist_ok=True)
     try:
         for stem, bug in named.items():
             (folder / f"{stem}.edit").write_text(edit_text(bug))
-        run = subprocess.run(
-            ["rt", "must-fail", name],
-            cwd=top,
-            stdout=subprocess.PIPE,
-            stderr=subprocess.STDOUT,
-            text=True,
-            check=False,
-        )
+        output = said_by(["rt", "must-fail", name], top)
     finally:
         for stem in named:
             (folder / f"{stem}.edit").unlink(missing_ok=True)
-    verdicts = verdicts_of(run.stdout, named)
+    verdicts = verdicts_of(output, named)
     for stem, bug in named.items():
         print(f"{name}: {bug.text}: {verdicts.get(stem, 'not tried')}")
     if len(verdicts) < len(named):
-        print(run.stdout[-2000:])
+        print(output[-2000:])
     return all(verdicts.get(stem, "").startswith("refused") for stem in named)
+
+
+def said_by(command: list[str], folder: Path) -> str:
+    """What a command prints."""
+    run = subprocess.run(
+        command,
+        cwd=folder,
+        stdout=subprocess.PIPE,
+        stderr=subprocess.STDOUT,
+        text=True,
+        check=False,
+    )
+    return run.stdout
+
+
+def function_at(text: str, place: int) -> str:
+    """The name of the function that a place of a file stands in; empty where it is in none."""
+    line = text[text.rfind("\n", 0, place) + 1 :]
+    if re.match(r"(pub(\(crate\))? )?const \w+: ", line):
+        return ""
+    names = re.findall(r"^\s*(?:pub(?:\(crate\))? )?fn (\w+)", text[:place], re.MULTILINE)
+    return names[-1] if names else ""
+
+
+def functions_of(crate: Path, bug: Bug) -> set[tuple[str, str]]:
+    """The functions that a bug changes, each with its file."""
+    found = set()
+    for change in bug.changes:
+        text = (crate / change.file).read_text(encoding="utf-8")
+        found.add((change.file, function_at(text, text.find(change.old))))
+    return found
+
+
+def batches_of(crate: Path, bugs: list[Bug]) -> Iterator[list[Bug]]:
+    """The bugs in groups of which no two change one function; those of constants are alone."""
+    left = bugs
+    while left:
+        batch: list[Bug] = []
+        taken: set[tuple[str, str]] = set()
+        later = []
+        for bug in left:
+            functions = functions_of(crate, bug)
+            alone = any(not name for _, name in functions)
+            if not taken or not (alone or taken & functions or ("", "") in taken):
+                batch.append(bug)
+                taken |= functions | ({("", "")} if alone else set())
+            else:
+                later.append(bug)
+        yield batch
+        left = later
+
+
+def verdict_in(output: str, crate: str, functions: set[tuple[str, str]]) -> str:
+    """What a check said of the functions: the first that has no proof of its own, or else all."""
+    lines = []
+    for file, name in sorted(functions):
+        module = file.removeprefix("src/").removesuffix(".rt").replace("/", "::")
+        path = rf"{crate}::(?:{module}::)?\S*?{name}" if name else rf"{crate}::\S+"
+        lines += re.findall(rf"^fn {path}: (.*)$", output, re.MULTILINE)
+    open_ones = [line for line in lines if line not in ("no holes", "proved")]
+    own = [line for line in open_ones if not re.match("(no proof:|not proved;) it calls", line)]
+    if own:
+        return f"refused: {own[0]}"
+    return f"not told: {open_ones[0]}" if open_ones else "NOT REFUSED"
+
+
+def verdicts_together(crate: Path, batch: list[Bug]) -> dict[Bug, str]:
+    """What one check says of a crate with these bugs, of each."""
+    functions = {bug: functions_of(crate, bug) for bug in batch}
+    with tempfile.TemporaryDirectory() as room:
+        kept = shutil.copytree(crate / "src", Path(room) / "src")
+        try:
+            for change in (change for bug in batch for change in bug.changes):
+                path = crate / change.file
+                text = path.read_text(encoding="utf-8")
+                path.write_text(text.replace(change.old, change.new), encoding="utf-8")
+            output = said_by(["rt", "check", "--allow-holes"], crate)
+        finally:
+            shutil.copytree(kept, crate / "src", dirs_exist_ok=True)
+    if not re.search("^fn ", output, re.MULTILINE):
+        print(output[-2000:])
+        return dict.fromkeys(batch, "not told: the check ended early")
+    return {bug: verdict_in(output, crate.name, functions[bug]) for bug in batch}
+
+
+def plant_together(top: Path, name: str, lists: str = LISTS) -> bool:
+    """Plants a crate's bugs of different functions at once; whether each was refused.
+
+    One of which that tells nothing, as where its function calls another with a bug, is then
+    planted alone.
+    """
+    crate = top / "crates" / name
+    planted = [bug for bug in bugs_of(top / lists / f"{name}.txt") if bug.changes]
+    refused = []
+    for batch in batches_of(crate, planted):
+        for bug, verdict in verdicts_together(crate, batch).items():
+            if verdict.startswith("not told") and len(batch) > 1:
+                verdict = verdicts_together(crate, [bug])[bug]
+            refused.append(verdict.startswith("refused"))
+            print(f"{name}: {bug.text}: {verdict}", flush=True)
+    return all(refused)
 
 
 def main(words: list[str]) -> int:
@@ -192,14 +293,21 @@ def main(words: list[str]) -> int:
     )
     commands = parser.add_subparsers(dest="command", required=True)
     commands.add_parser("table", help="prints the lists as tables")
-    tries = commands.add_parser("try", help="plants bugs")
-    tries.add_argument("crate", nargs="+")
+    for command, what in (
+        ("try", "plants bugs, one at a time"),
+        ("together", "plants bugs of different functions at once"),
+    ):
+        tries = commands.add_parser(command, help=what)
+        tries.add_argument("--untried", action="store_true", help="those that were not tried yet")
+        tries.add_argument("crate", nargs="+")
     options = parser.parse_args(words)
     try:
         if options.command == "table":
             print(table_of(TOP), end="")
             return 0
-        return 0 if all([try_bugs(TOP, name) for name in options.crate]) else 1
+        plant = try_bugs if options.command == "try" else plant_together
+        lists = UNTRIED if options.untried else LISTS
+        return 0 if all([plant(TOP, name, lists) for name in options.crate]) else 1
     except ListError as fault:
         print(f"plant_bugs: {fault}", file=sys.stderr)
         return 2

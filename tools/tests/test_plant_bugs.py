@@ -10,7 +10,7 @@ from pathlib import Path
 from unittest.mock import patch
 
 import plant_bugs
-from plant_bugs import LISTS, TOP, Bug, Change, ListError, bug_of, bugs_of
+from plant_bugs import LISTS, TOP, UNTRIED, Bug, Change, ListError, bug_of, bugs_of
 
 KEPT = "bug: reads one byte too few\ncall: Reader::read\nclause: `moved`\nedit: one_too_few"
 PLANTED = """\
@@ -54,10 +54,19 @@ class Lists(unittest.TestCase):
 
     def test_changes(self) -> None:
         """What a bug changes stands once in the code."""
-        for name in plant_bugs.crates(TOP):
-            for bug in bugs_of(TOP / LISTS / f"{name}.txt"):
-                with self.subTest(name, bug=bug.text):
-                    self.assertEqual(wrong_changes(TOP / "crates" / name, bug), [])
+        for path in (*(TOP / LISTS).glob("*.txt"), *(TOP / UNTRIED).glob("*.txt")):
+            for bug in bugs_of(path):
+                with self.subTest(path.stem, bug=bug.text):
+                    self.assertEqual(wrong_changes(TOP / "crates" / path.stem, bug), [])
+
+    def test_untried(self) -> None:
+        """What was not tried is no kept edit, and in no other list."""
+        for path in (TOP / UNTRIED).glob("*.txt"):
+            with self.subTest(path.stem):
+                untried = bugs_of(path)
+                self.assertEqual([bug.text for bug in untried if bug.edit], [])
+                tried = {bug.changes for bug in bugs_of(TOP / LISTS / path.name)}
+                self.assertEqual([bug.text for bug in untried if bug.changes in tried], [])
 
     def test_crates(self) -> None:
         """Each crate that has wrong bodies has a list, and no other folder has one."""
@@ -159,13 +168,63 @@ class Planting(unittest.TestCase):
                 self.assertFalse(refused)
                 self.assertIn(f"reader: a fault is swallowed: {verdict}\n", printed)
 
+    def test_together(self) -> None:
+        """A bug of a constant is alone, and one that is not told of; a verdict is by function."""
+        faults = "fn read() {\n    a;\n}\nfn write() {\n    b;\n}\n"
+        (self.top / "crates/reader/src/faults.rt").write_text(faults)
+        said = "bug: {0}\ncall: r\nclause: c\nfile: src/faults.rt\nold: {0};\nnew: d;"
+        bugs = "\n\n".join([PLANTED, said.format("    a"), said.format("    b")])
+        (self.top / LISTS / "reader.txt").write_text(bugs)
+        seen = []
+
+        def run(command: list[str], **_: object) -> subprocess.CompletedProcess[str]:
+            self.assertEqual(command, ["rt", "check", "--allow-holes"])
+            folder = self.top / "crates/reader/src"
+            seen.append({path.name: path.read_text() for path in folder.iterdir()})
+            write = "no holes" if len(seen) == 3 else "not proved; it calls `r`"
+            text = f"fn reader::faults::R::read: no proof: a\nfn reader::faults::write: {write}\n"
+            return subprocess.CompletedProcess(command, 0, stdout=text)
+
+        printed = io.StringIO()
+        with patch.object(subprocess, "run", run), contextlib.redirect_stdout(printed):
+            self.assertFalse(plant_bugs.plant_together(self.top, "reader"))
+        self.assertEqual(
+            printed.getvalue(),
+            "reader: a fault is swallowed: refused: no proof: a\n"
+            "reader:     a: refused: no proof: a\n"
+            "reader:     b: NOT REFUSED\n",
+        )
+        changed = SOURCE.replace("return Err(Fault);", "return Ok(());").replace("4;", "5;")
+        self.assertEqual(seen[0], {"reader.rt": changed, "faults.rt": faults})
+        together = faults.replace("    a;", "d;").replace("    b;", "d;")
+        self.assertEqual(seen[1], {"reader.rt": SOURCE, "faults.rt": together})
+        alone = faults.replace("    b;", "d;")
+        self.assertEqual(seen[2:], [{"reader.rt": SOURCE, "faults.rt": alone}])
+        self.assertEqual((self.top / "crates/reader/src/reader.rt").read_text(), SOURCE)
+
+    def test_lines_of_a_check(self) -> None:
+        """A function that calls an unproved one, and has no gap of its own, tells nothing."""
+        for said, verdict in (
+            ("no proof: it calls `r::a::c`, which is not proved", "not told"),
+            ("no proof: expected answers; `search` did not prove `y`; it calls `z`", "refused"),
+            ("not proved; it calls `r::a::c`, which is not proved", "not told"),
+            ("not proved; it stands on `r.proofs.a.b.returns`, which antt refuses", "refused"),
+            ("no holes", "NOT REFUSED"),
+            ("proved", "NOT REFUSED"),
+        ):
+            with self.subTest(said):
+                lines = f"fn r::a::other: no proof: x\nfn r::a::T::b: {said}\n"
+                told = plant_bugs.verdict_in(lines, "r", {("src/a.rt", "b")})
+                self.assertEqual(told.partition(":")[0], verdict)
+
     def test_table(self) -> None:
         self.assertEqual(
             plant_bugs.table_of(self.top),
             "## `reader`: 2\n\n"
             "| Bug | Call | Refused by | Kept as |\n|---|---|---|---|\n"
             "| reads one byte too few | `Reader::read` | `moved` | `one_too_few` |\n"
-            "| a fault is swallowed | `Reader::read` | `cause`; it said nothing of the count |  |\n",
+            "| a fault is swallowed | `Reader::read` "
+            "| `cause`; it said nothing of the count |  |\n",
         )
 
     def test_wrong_list(self) -> None:
