@@ -1,16 +1,16 @@
 -- What a change of a board's variables keeps: a span from the board before, and that it is live again.
-use Rattle.std.proofs.Common.{◌≡◌, ◌⊎◌, inl, inr, ⊎_elim, ℕ, ◌-◌, ◌∷◌, [], ◌++◌, List, true, false, not, cond, Some, None, Option, Result, Ok, Err, refl, sym, ◌∙◌, ap, subst}
+use Rattle.std.proofs.Common.{◌≡◌, ◌⊎◌, inl, inr, ⊎_elim, ℕ, ◌-◌, ◌∷◌, [], ◌++◌, List, true, false, Some, Option, Result, Ok, Err, refl, sym, ◌∙◌, ap, subst}
 use Rattle.bd_dev.specs.declared.plant.Area.TheVariants.{Disk, Flash}
 use Rattle.bd_dev.specs.Plant.{View, IsHonest}
-use Rattle.boot_vars.specs.Setting.{Changes, IsDurable, changed, put_refusal, unset_refusal}
+use Rattle.boot_vars.specs.Setting.{Changes, IsDurable, changed}
 use Rattle.boot_vars.specs.Vars.{Vars}
 use Rattle.cuts.specs.declared.effect.Effect.TheVariants.{Vars as SetVars}
 use Rattle.cuts.specs.Spans.{HasOnlyPending, Spans}
 use Rattle.cuts.proofs.Changes.{HasVariablesSet, pending_vars, spans_vars}
 use Rattle.gpt_copy.specs.Copy.{FitsDisk}
 use Rattle.storage_model.specs.Entries.{IsSane}
-use Rattle.storage_model.specs.Variables.{Variable, is_name, kept_in, value_among}
-use Rattle.std.specs.Prelude.{IsErrAnd, IsTrue, is_none}
+use Rattle.storage_model.specs.Variables.{kept_in}
+use Rattle.std.specs.Prelude.{IsErrAnd}
 use Rattle.boot_vars.specs.declared.fault.VarFault.{VarFault}
 use Rattle.boot_vars.specs.declared.fault.VarFault.TheVariants as var_faults
 use Rattle.cuts.specs.declared.effect.Effect.{Effect}
@@ -76,7 +76,3 @@ refused_effect x same h (Err e) why is err other = subst (λ (f : BoardFault). D
     by_fault var_faults.VarsFull other = record { plant = is; held = refl }
     by_fault var_faults.SeqEnd other = record { plant = is; held = refl }
     by_fault var_faults.Fault other = absurd (other refl)
-
--- an absent variable is taken out, where its name is one
-pub absent_refusal : (vs : List Variable) (number : ℕ) (name : List ℕ) → value_among vs name ≡ None → IsTrue (is_name name) → unset_refusal vs number name ≡ None
-absent_refusal vs number name none named = λ i. cond (not (named i)) (Some var_faults.BadName) (cond (is_none (none i)) None (put_refusal number))

@@ -1,5 +1,5 @@
 -- What a change of the variables leaves.
-use Rattle.std.proofs.Common.{◌≡◌, inl, inr, ⊎_elim, ℕ, ◌<◌, ◌≤◌, List, Bool, false, cond, nat_lt, None, sym, ◌∙◌, ap, subst, arith}
+use Rattle.std.proofs.Common.{◌≡◌, inl, inr, ⊎_elim, ℕ, ◌+◌, ◌<◌, ◌≤◌, List, length, Bool, false, not, cond, nat_lt, None, sym, ◌∙◌, ap, subst, arith}
 use Rattle.std.proofs.lemmas.Bool.{le-ltb}
 use Rattle.bd_dev.specs.declared.plant.Area.{Area}
 use Rattle.bd_dev.specs.declared.plant.Area.TheVariants.{Flash}
@@ -9,9 +9,10 @@ use Rattle.plant_runs.proofs.Joins.{leaves_now}
 use Rattle.plant_runs.proofs.Touch.{leaves_weaker, touch_now}
 use Rattle.plant_runs.specs.Touching.{Touches}
 use Rattle.slot_pair.proofs.Frames.{slot_frame}
+use Rattle.slot_pair.specs.Body.{used_sectors}
 use Rattle.slot_pair.specs.Pair.{Pair}
 use Rattle.slot_pair.specs.Putting.{Puts}
-use Rattle.storage_model.specs.Slots.{current, newer}
+use Rattle.storage_model.specs.Slots.{current, newer, slot_lba}
 use Rattle.storage_model.specs.Variables.{kept_in}
 use Rattle.boot_vars.specs.Setting.{Changes}
 use Rattle.boot_vars.specs.Vars.{FitsVars, Vars}
@@ -34,13 +35,17 @@ room_of v vars fits =
     let room = fits.pair.room in
     omega (arith, room, size, base)
 
-pub changes_of : (old new : View) (vars : Vars) (pair : Pair) (text : List ℕ) → FitsVars old vars → vars.pair ≡ pair → Puts 16 pair text old new → Changes vars text old new
-changes_of old new vars pair text fits same put =
+pub changes_of : (old new : View) (vars : Vars) (pair : Pair) (text : List ℕ) → FitsVars old vars → vars.pair ≡ pair → Puts 16 pair text old new
+    → Touches pair.area (slot_lba 16 pair.base (not pair.second)) (used_sectors (length text) + 1) old new → Changes vars text old new
+changes_of old new vars pair text fits same put touched =
     let puts = subst (λ (p : Pair). Puts 16 p text old new) (sym same) put in
+    let n = used_sectors (length text) + 1 in
+    let few = subst (λ (p : Pair). Touches p.area (slot_lba 16 p.base (not p.second)) n old new) (sym same) touched in
     let kept : (z : Image) → current 16 (z vars.pair.area) vars.pair.base ≡ kept_in (old.size Flash) (z Flash) =
     λ z. (λ i. current 16 (z (fits.area i)) (fits.base i)) ∙ sym (kept_is (old.size Flash) (z Flash) (room_of old vars fits)) in
     record {
       touches = subst (λ (a : Area). Touches a 0 34 old new) fits.area (subst (λ (base : ℕ). Touches vars.pair.area base 34 old new) fits.base puts.touches);
+      few = subst (λ (a : Area). Touches a (slot_lba 16 0 (not vars.pair.second)) n old new) fits.area (subst (λ (base : ℕ). Touches vars.pair.area (slot_lba 16 base (not vars.pair.second)) n old new) fits.base few);
       crash = λ tells. leaves_weaker old new _ _ (puts.crash tells) (λ c either.
           ⊎_elim (λ same. inl (sym (kept c) ∙ same ∙ kept old.reads)) (λ turned. inr (sym (kept c) ∙ turned)) either);
     }
@@ -49,5 +54,6 @@ changes_of old new vars pair text fits same put =
 pub changes_now : (v : View) (vars : Vars) (text : List ℕ) → IsHonest v → (v.tells → IsSynced v Flash) → Changes vars text v v
 changes_now v vars text honest synced = record {
   touches = touch_now Flash 0 34 v honest;
+  few = touch_now Flash _ _ v honest;
   crash = λ tells. leaves_now v _ honest tells (λ c image. inl (kept_frame (v.size Flash) (v.reads Flash) (c Flash) (λ s lt. image Flash s (synced tells s))));
 }

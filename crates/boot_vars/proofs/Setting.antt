@@ -8,8 +8,10 @@ use Rattle.std.proofs.lemmas.List.{map-append, take_at}
 use Rattle.std.proofs.lemmas.List.Elements.{Contains-append_cases, Contains-append_left, Contains-append_right, filter-append}
 use Rattle.std.proofs.lemmas.Slice.Eq.{bytes_eq-Decides}
 use Rattle.boot_vars.specs.Places.{AreNamed, IsPlace}
-use Rattle.boot_vars.specs.Setting.{with_variable, without}
-use Rattle.storage_model.specs.Variables.{AreVariables, IsText, Spells, Variable, is_variable, line_of, lines_of, names_of, value_among}
+use Rattle.std.specs.Prelude.{IsTrue}
+use Rattle.boot_vars.specs.Setting.{put_refusal, unset_refusal, with_variable, without}
+use Rattle.boot_vars.specs.declared.fault.VarFault.TheVariants.{BadName}
+use Rattle.storage_model.specs.Variables.{AreVariables, IsText, Spells, Variable, is_name, is_variable, line_of, lines_of, names_of, value_among}
 use Rattle.boot_vars.proofs.BadLines.{fresh_name}
 use Rattle.boot_vars.proofs.LineParts.{assignment, length_line, same_line}
 use Rattle.boot_vars.proofs.Places.{rest_of, within as within_text}
@@ -274,3 +276,7 @@ with_is_text text at size v written vs place spells is same = (with_variable vs 
 
 pub without_is_text : (text name : List ℕ) (at size : ℕ) (written : List ℕ) (vs : List Variable) → IsPlace text name at size → Spells text vs → written ≡ lines_of (without vs name) → IsText written
 without_is_text text name at size written vs place spells same = (without vs name, record { lines = same; variables = (without_spells text name at size vs place spells).variables })
+
+-- an absent variable is taken out, where its name is one
+pub absent_refusal : (vs : List Variable) (number : ℕ) (name : List ℕ) → value_among vs name ≡ None → IsTrue (is_name name) → unset_refusal vs number name ≡ None
+absent_refusal vs number name none named = λ i. cond (not (named i)) (Some BadName) (cond (is_none (none i)) None (put_refusal number))

@@ -7,8 +7,9 @@ use Rattle.plant_runs.specs.Runs.{LeavesOnly}
 use Rattle.plant_runs.specs.Touching.{Touches}
 use Rattle.slot_pair.specs.declared.fault.PutFault.{PutFault}
 use Rattle.slot_pair.specs.declared.fault.PutFault.TheVariants as put_faults
+use Rattle.slot_pair.specs.Body.{used_sectors}
 use Rattle.slot_pair.specs.Putting.{IsEither, stored, turned}
-use Rattle.storage_model.specs.Slots.{pair_sectors}
+use Rattle.storage_model.specs.Slots.{pair_sectors, slot_lba}
 use Rattle.storage_model.specs.Variables.{Variable, kept_in, variables_sectors, is_name, is_value, lines_of, value_among}
 use Rattle.boot_vars.specs.declared.fault.VarFault.{VarFault}
 use Rattle.boot_vars.specs.declared.fault.VarFault.TheVariants.{BadName, BadText, Fault, SeqEnd, VarsFull}
@@ -62,10 +63,12 @@ of_put_fault put_faults.TooLong = VarsFull
 of_put_fault put_faults.SeqEnd = SeqEnd
 of_put_fault put_faults.Fault = Fault
 
--- A change of the variables to those of this text: it touches the sectors of the variables alone, and at every moment a
--- crash leaves the variables as they were, or this text under the next number.
+-- A change of the variables to those of this text: it touches the sectors of the variables alone, of these the other
+-- slot's gate and as many of its body as hold bytes, and at every moment a crash leaves the variables as they were, or
+-- this text under the next number.
 pub record Changes (vars : Vars) (text : List ℕ) (old new : View) : Type 0 where
   pub touches : Touches Flash 0 (pair_sectors variables_sectors) old new
+  pub few : Touches Flash (slot_lba variables_sectors 0 (not vars.pair.second)) (used_sectors (length text) + 1) old new
   pub crash : old.tells → LeavesOnly old new (λ c. IsEither (kept_in (old.size Flash) (old.reads Flash)) (stored (vars.pair.number + 1) text) (kept_in (old.size Flash) (c Flash)))
 
 -- the variables after a change

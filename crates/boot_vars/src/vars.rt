@@ -1,6 +1,6 @@
 //! The boot variables.
 
-ghost use Rattle.std.specs.Prelude.{◌≡◌, ◌≢◌, ◌⊎◌, ◌≤◌, ℕ, List, length, Ok, Err, Some, None, IfOk, IfSome, IsSome, OnErr, OnOk, OnSome, is_none, option_map, take};
+ghost use Rattle.std.specs.Prelude.{◌≡◌, ◌≢◌, ◌⊎◌, ◌≤◌, ℕ, List, length, Ok, Err, Some, None, IfOk, IfSome, IsSome, IsTrue, OnErr, OnOk, OnSome, is_none, option_map, take};
 ghost use Rattle.std.specs.Result.{result_err};
 ghost use Rattle.bd_dev.specs.declared.plant.Area.TheVariants.{Flash};
 ghost use Rattle.bd_dev.specs.Faults.{HasCauseOr};
@@ -12,7 +12,7 @@ ghost use Rattle.boot_vars.specs.declared.fault.VarFault.TheVariants as var_faul
 ghost use Rattle.boot_vars.specs.declared.fault.VarsFault.TheVariants.{BadLine, Fault, NoSlot};
 ghost use Rattle.plant_runs.specs.Runs.{Looks};
 ghost use Rattle.storage_model.specs.Slots.{Stored};
-ghost use Rattle.storage_model.specs.Variables.{HoldsVariables, IsBadLine, IsText, Names, Spells, Variable, kept_in, lines_of, mode_in, value_among, value_of};
+ghost use Rattle.storage_model.specs.Variables.{HoldsVariables, IsBadLine, IsText, Names, Spells, Variable, is_name, kept_in, lines_of, mode_in, value_among, value_of};
 
 use crate::fault::{VarFault, VarsFault};
 use crate::find::value_in;
@@ -244,6 +244,8 @@ impl BootVars {
             → IsSome (unset_refusal vs self.old.pair.number name.now) → plant.new ≡ plant.old }
         ensures absent { (vs : List Variable) → Spells self.old.text vs → value_among vs name.now ≡ None
             → (plant.new ≡ plant.old) × (self.new ≡ self.old) }
+        ensures done { (vs : List Variable) → Spells self.old.text vs → value_among vs name.now ≡ None
+            → IsTrue (is_name name.now) → result ≡ Ok tt }
         ensures kept { OnErr result (self.new ≡ self.old) }
         ensures set { (vs : List Variable) → Spells self.old.text vs → IsSome (value_among vs name.now) → OnOk result
             (self.new ≡ changed self.old (lines_of (without vs name.now))) }

@@ -2,7 +2,8 @@ use Rattle.std.proofs.Common.{◌≡◌, ◌∙◌, inl, None, Some, Option, Ok,
 use Rattle.boot_vars.specs.declared.fault.VarFault.{VarFault}
 use Rattle.board.specs.Changes.{IsAnswer, of_var_refusal}
 use Rattle.board.proofs.Keeping.{keeps_now}
-use Rattle.board.proofs.VariableChanges.{absent_refusal, refused_answer, refused_effect}
+use Rattle.board.proofs.VariableChanges.{refused_answer, refused_effect}
+use Rattle.boot_vars.proofs.Setting.{absent_refusal}
 use Rattle.board.proofs.board.Board.unset_var.Goals as goal
 
 pub returns-in_err-length-clause-answer : goal.returns-in_err-length-clause-answer

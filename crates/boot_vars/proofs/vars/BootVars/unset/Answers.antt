@@ -1,3 +1,5 @@
+use Rattle.std.proofs.Common.{◌≡◌, ◌∙◌, None, Some}
+use Rattle.boot_vars.proofs.Setting.{absent_refusal}
 use Rattle.boot_vars.proofs.Changing.{changes_now}
 use Rattle.boot_vars.proofs.vars.BootVars.unset.Goals as goal
 
@@ -8,3 +10,8 @@ returns-in_err-length-clause-changes g c = λ vs spells.
 pub returns-in-None-clause-changes : goal.returns-in-None-clause-changes
 returns-in-None-clause-changes g c = λ vs spells.
     changes_now (g.P.Plant.view c.args.plant.now) c.args.self.now _ (g.met.P.Plant.honest c.args.plant.now) c.requires.synced
+
+pub returns-in_err-length-clause-done : goal.returns-in_err-length-clause-done
+returns-in_err-length-clause-done g c = λ vs spells none named.
+    let same : Some c.in_err-length.field-0.0 ≡ None = c.in_err-length.ensures.refusal vs spells ∙ absent_refusal vs _ _ none named in
+    cc
