@@ -1,6 +1,6 @@
 //! What fetches candidates.
 
-ghost use Rattle.std.specs.Prelude.{◌≡◌, ℕ, ◌+◌, List, [], ◌∷◌, Option, false, IfOk, OnOk, OnErr};
+ghost use Rattle.std.specs.Prelude.{◌≡◌, ◌≢◌, ℕ, ◌+◌, List, [], ◌∷◌, Option, Err, true, false, IfOk, OnOk, OnErr};
 ghost use Rattle.std.specs.Option.{ForSome};
 ghost use Rattle.bd_dev.specs.Faults.{HasCauseOr};
 ghost use Rattle.url_waterfall.specs.declared.candidate.Candidate.{Candidate};
@@ -37,7 +37,8 @@ pub trait Fetcher {
     /// Fetches a candidate in a round: its body, or why there is none. A candidate other than a file of a local medium
     /// asks for one fetch over the network, and takes at most one.
     ///
-    /// Answers `Media`, `Net` or `Sink` where that device failed, and counted it, or `Memory`. Then the fetch broke off.
+    /// Answers `Media`, `Net` or `Sink` where that device failed, and counted it, or `Memory`: `Media` only of a file of a
+    /// local medium, `Net` and `Sink` only of other candidates. Then the fetch broke off.
     fn fetch(
         &mut self,
         alloc: Global,
@@ -50,6 +51,8 @@ pub trait Fetcher {
         ensures made { OnOk result (Made self.old (record { round = round; candidate = candidate.now } ∷ []) self.new) }
         ensures broken { OnErr result (Broken self.old (record { round = round; candidate = candidate.now } ∷ []) self.new) }
         ensures left { (n : ℕ) → Left self.old (n + needs candidate.now) → Left self.new n }
+        ensures local { is_local candidate.now ≡ true → (result ≢ Err FetchFault.Net) × (result ≢ Err FetchFault.Sink) }
+        ensures remote { is_local candidate.now ≡ false → result ≢ Err FetchFault.Media }
         ensures media { HasCauseOr FetchFault.Media (media_faults self.old) (media_faults self.new) result }
         ensures net { HasCauseOr FetchFault.Net (net_faults self.old) (net_faults self.new) result }
         ensures trace { HasCauseOr FetchFault.Sink (trace_faults self.old) (trace_faults self.new) result };

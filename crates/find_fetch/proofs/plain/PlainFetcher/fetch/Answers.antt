@@ -1,4 +1,4 @@
-use Rattle.std.proofs.Common.{refl, ap, sym, ◌∙◌, arith}
+use Rattle.std.proofs.Common.{◌≡◌, true, false, refl, ap, sym, ◌∙◌, arith}
 use Rattle.find_fetch.specs.Fetching.{seen}
 use Rattle.find_fetch.specs.declared.request.Spot.TheVariants.{At}
 use Rattle.find_fetch.proofs.Asking.{at_answer, at_left, at_made, called_answer, is_remote, on_ok, only_local, refused_answer}
@@ -56,3 +56,8 @@ pub returns-clause-answer : goal.returns-clause-answer
 returns-clause-answer g c =
     called_answer (g.N.Net.rows c.args.self.now.net.now) (g.M.Media.content c.args.self.now.media.now) c.args.round c.args.candidate.now
     c.in_ok-aim.field-0 c.in-Aim.aim c.in-Called.field-0 c.in_ok-aim.ensures.aimed c.in-Aim.is c.in-Called.is
+
+pub returns-in-At-clause-local : goal.returns-in-At-clause-local
+returns-in-At-clause-local g c = λ local.
+    let remote : true ≡ false = sym local ∙ is_remote c.args.candidate.now c.in_ok-aim.field-0 c.in_ok-aim.ensures.aimed (λ e. cc (e, c.in-Aim.is)) in
+    absurd (cc remote)
