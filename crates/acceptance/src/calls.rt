@@ -1,10 +1,27 @@
-//! A call over a plant, beside devices that fail when they are called.
+//! Calls of [`onie`]: over any devices, and over a plant in memory beside devices that fail when they are called.
 
-use bd_dev::{MemEeprom, MemMedia, MemSink, MemSource};
+use bd_dev::{Eeprom, Media, MemEeprom, MemMedia, MemSink, MemSource, Plant, Sink, Source};
 use bd_sim::SimPlant;
 use onie_cli::{Status, onie};
 use std::alloc::Global;
 use std::test::Fail;
+
+/// What the words answer over the devices.
+///
+/// All tests call `onie` by this function. It promises nothing, so that the many clauses of that call are read here alone,
+/// for devices of any kind: the tests look at what there is.
+pub(crate) fn answer<P: Plant, E: Eeprom, M: Media, S: Source, C: Sink, T: Sink>(
+    alloc: Global,
+    words: &[String],
+    plant: &mut P,
+    eeprom: &mut E,
+    media: &mut M,
+    script: &mut S,
+    console: &mut C,
+    trace: &mut T,
+) -> Status {
+    onie(alloc, words, plant, eeprom, media, script, console, trace)
+}
 
 /// What a line of words answers over the plant, and what the console took. The console's call of the number fails.
 pub(crate) fn run(
@@ -22,7 +39,7 @@ pub(crate) fn run(
     let mut console = MemSink::new(alloc, &[console_fails])?;
     let mut script = MemSource::new(alloc, b"", &[1])?;
     let mut trace = MemSink::new(alloc, &[1])?;
-    let status = onie(
+    let status = answer(
         alloc,
         &words,
         plant,

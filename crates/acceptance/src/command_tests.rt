@@ -2,12 +2,13 @@
 
 ghost use Rattle.std.specs.Prelude.{◌≤◌, length};
 
+use crate::calls::answer;
 use bd_dev::{
     Bytes, DevFault, Eeprom, Failed, Media, MemEeprom, MemMedia, MemSink, MemSource, Names,
 };
 use bd_sim::SimPlant;
 use net_script::ScriptKind;
-use onie_cli::{EepromKind, Outcome, RefusedKind, SoundKind, Status, onie};
+use onie_cli::{EepromKind, Outcome, RefusedKind, SoundKind, Status};
 use std::alloc::Global;
 use std::test::Fail;
 use tlvinfo::{IdentFault, TlvKind};
@@ -121,7 +122,7 @@ fn run_words(
     let mut plant = SimPlant::new(alloc, b"", b"", &[1])?;
     let mut script = MemSource::new(alloc, b"", &[])?;
     let mut trace = MemSink::new(alloc, &[1])?;
-    let status = onie(
+    let status = answer(
         alloc,
         words,
         &mut plant,
@@ -297,16 +298,16 @@ impl Media for Shrinking {
     }
 }
 
-#[test]
-fn a_file_that_shrinks_is_short(rt: HostRuntime) -> Result<(), Fail> {
-    let words = words(rt.alloc(), "discover")?;
-    let mut eeprom = MemEeprom::new(rt.alloc(), BOARD, &[])?;
-    let mut plant = SimPlant::new(rt.alloc(), b"", b"", &[1])?;
-    let mut console = MemSink::new(rt.alloc(), &[])?;
-    let mut script = MemSource::new(rt.alloc(), b"", &[])?;
-    let mut trace = MemSink::new(rt.alloc(), &[1])?;
-    let status = onie(
-        rt.alloc(),
+/// What `discover` answers over such media, and what the console took.
+fn discover_shrinking(alloc: Global) -> Result<(Status, MemSink), Fail> {
+    let words = words(alloc, "discover")?;
+    let mut plant = SimPlant::new(alloc, b"", b"", &[1])?;
+    let mut eeprom = MemEeprom::new(alloc, BOARD, &[])?;
+    let mut script = MemSource::new(alloc, b"", &[])?;
+    let mut console = MemSink::new(alloc, &[])?;
+    let mut trace = MemSink::new(alloc, &[1])?;
+    let status = answer(
+        alloc,
         &words,
         &mut plant,
         &mut eeprom,
@@ -315,9 +316,15 @@ fn a_file_that_shrinks_is_short(rt: HostRuntime) -> Result<(), Fail> {
         &mut console,
         &mut trace,
     );
+    Ok((status, console))
+}
+
+#[test]
+fn a_file_that_shrinks_is_short(rt: HostRuntime) -> Result<(), Fail> {
+    let (status, console) = discover_shrinking(rt.alloc())?;
     assert_eq!(rt; status, Status::Done(Outcome::Printed));
-    let first = b"miss file://usb0/onie-installer-x86_64-kvm_x86_64-r0: short 5 3\n".as_slice();
-    assert!(rt; console.as_slice().starts_with(first));
+    let first = "miss file://usb0/onie-installer-x86_64-kvm_x86_64-r0: short 5 3\n";
+    assert!(rt; console.as_slice().starts_with(first.as_bytes()));
     Ok(())
 }
 
@@ -436,64 +443,57 @@ fn sets_one_field(rt: HostRuntime) -> Result<(), Fail> {
     Ok(())
 }
 
-/// A text of each kind of value, set and printed, and set once more.
+/// A text of each kind of value that is set, and the line that is then printed last.
 #[test]
 fn what_is_set_is_printed(rt: HostRuntime) -> Result<(), Fail> {
-    for (code, text) in [
-        ("0x21", "Switch 48x10G"),
-        ("0x24", "00:1B:2C:3D:4E:FF"),
-        ("0x25", "02/29/2024 23:59:58"),
-        ("0x26", "255"),
-        ("0x2A", "65535"),
-        ("0x2C", "DE"),
-        ("0xFD", "00a1ff7e"),
-        ("0xAB", ""),
+    for (code, text, line) in [
+        ("0x21", "Switch 48x10G", "0x21 Switch 48x10G\n"),
+        ("0x24", "00:1B:2C:3D:4E:FF", "0x24 00:1B:2C:3D:4E:FF\n"),
+        ("0x25", "02/29/2024 23:59:58", "0x25 02/29/2024 23:59:58\n"),
+        ("0x26", "255", "0x26 255\n"),
+        ("0x2A", "65535", "0x2A 65535\n"),
+        ("0x2C", "DE", "0x2C DE\n"),
+        ("0xFD", "00a1ff7e", "0xFD 00a1ff7e\n"),
+        ("0xAB", "", "0xAB \n"),
     ] {
         let mut eeprom = MemEeprom::new(rt.alloc(), BOARD, &[])?;
-        let stored = Status::Done(Outcome::Stored);
         let (status, _) = call(
             rt.alloc(),
             &["eeprom", "set", code, text],
             &mut eeprom,
             NO_FAILS,
         )?;
-        assert_eq!(rt; status, stored, "{code}");
+        assert_eq!(rt; status, Status::Done(Outcome::Stored), "{code}");
         let (status, console) = call(rt.alloc(), &["eeprom"], &mut eeprom, NO_FAILS)?;
         assert_eq!(rt; status, Status::Done(Outcome::Printed));
-        let line = format!(in rt.alloc(); "{code} {text}\n")?;
-        assert!(rt;
-            str::from_utf8(console.as_slice())?.contains(line.as_str()),
-            "{code}"
-        );
+        assert!(rt; console.as_slice().ends_with(line.as_bytes()), "{code}");
     }
     Ok(())
 }
 
-/// Sets a vendor extension of so many bytes, each zero.
-fn extend(alloc: Global, eeprom: &mut MemEeprom, count: usize) -> Result<Status, Fail> {
-    let mut line = String::from_str(alloc, "eeprom set 0xFD ")?;
-    for _ in 0..count {
-        line.push_str("00")?;
-    }
-    let (status, _) = run_on(alloc, line.as_str(), eeprom, NO_FAILS)?;
+/// Sets a vendor extension of these bytes, in hexadecimal digits.
+fn extend(alloc: Global, eeprom: &mut MemEeprom, digits: &str) -> Result<Status, Fail> {
+    let line = ["eeprom", "set", "0xFD", digits];
+    let (status, _) = call(alloc, &line, eeprom, NO_FAILS)?;
     Ok(status)
 }
 
+/// Seven extensions of 255 bytes each leave room for one of 200.
 #[test]
 fn a_full_eeprom_takes_no_more(rt: HostRuntime) -> Result<(), Fail> {
+    let zeros = String::from_utf8(Vec::from_slice(rt.alloc(), &[b'0'; 510])?)?;
+    let most = zeros.as_str();
+    let (Some(too_many), Some(just)) = (most.get(..402), most.get(..400)) else {
+        return Err(Fail::new("no digits"));
+    };
     let mut eeprom = MemEeprom::new(rt.alloc(), BOARD, &[])?;
+    let stored = Status::Done(Outcome::Stored);
     for _ in 0..7 {
-        assert_eq!(rt;
-            extend(rt.alloc(), &mut eeprom, 255)?,
-            Status::Done(Outcome::Stored)
-        );
+        assert_eq!(rt; extend(rt.alloc(), &mut eeprom, most)?, stored);
     }
     let too_long = Status::Refused(RefusedKind::TooLong);
-    assert_eq!(rt; extend(rt.alloc(), &mut eeprom, 201)?, too_long);
-    assert_eq!(rt;
-        extend(rt.alloc(), &mut eeprom, 200)?,
-        Status::Done(Outcome::Stored)
-    );
+    assert_eq!(rt; extend(rt.alloc(), &mut eeprom, too_many)?, too_long);
+    assert_eq!(rt; extend(rt.alloc(), &mut eeprom, just)?, stored);
     let mut out = [0; 2048];
     assert_eq!(rt; eeprom.load(&mut out)?, 2048);
     let (status, console) = run_on(rt.alloc(), "eeprom set 0x21 X", &mut eeprom, NO_FAILS)?;

@@ -1,9 +1,12 @@
 //! `discover` over the script of a network: which scripts are played, and how others are refused.
 
+ghost use Rattle.std.specs.Prelude.{◌≤◌, length};
+
+use crate::calls::answer;
 use bd_dev::{MemEeprom, MemMedia, MemSink, MemSource, Source};
 use bd_sim::SimPlant;
 use net_script::ScriptKind;
-use onie_cli::{EepromKind, Outcome, Status, onie};
+use onie_cli::{EepromKind, Outcome, Status};
 use std::alloc::Global;
 use std::test::Fail;
 use tlvinfo::TlvKind;
@@ -21,16 +24,6 @@ const FAR: &str = "\
 \n\n\n\n\n\n\n\n\n\n\n\n\n\n\n\n\n\n\n\n\n\n\n\n\n\n\n\n\n\n\n\n\n\
 flow 0 x";
 
-/// What a call takes and leaves.
-#[derive(Drop)]
-struct Devices {
-    eeprom: MemEeprom,
-    media: MemMedia,
-    script: MemSource,
-    console: MemSink,
-    trace: MemSink,
-}
-
 /// The numbers of the calls that fail, of each device. No call has the number 0.
 #[derive(Clone, Copy)]
 struct Fails {
@@ -45,35 +38,56 @@ const NO_FAILS: Fails = Fails {
     console: 0,
 };
 
-/// The devices of a board with this script, and the volume `usb0` with one installer.
-fn board_with(alloc: Global, script: &[u8], fails: Fails) -> Result<Devices, Fail> {
-    let mut media = MemMedia::new(alloc, &[fails.media])?;
-    media.add(b"usb0", b"onie-installer", b"12345")?;
-    Ok(Devices {
-        eeprom: MemEeprom::new(alloc, BOARD, &[])?,
-        media,
-        script: MemSource::new(alloc, script, &[fails.script])?,
-        console: MemSink::new(alloc, &[fails.console])?,
-        trace: MemSink::new(alloc, &[1])?,
-    })
+/// What a call answers, what the console and the trace took, and how many bytes the script's source gives to a next read.
+#[derive(Drop)]
+struct Discovery {
+    status: Status,
+    console: MemSink,
+    trace: MemSink,
+    rest: Option<usize>,
 }
 
-/// The status of `discover` over the devices.
-fn discover(alloc: Global, devices: &mut Devices) -> Result<Status, Fail> {
+/// What `discover` comes to on a board with this EEPROM and this script, whose volume `usb0` has one installer, and whose
+/// volume `net` has the file `img` where that is served.
+fn discover(
+    alloc: Global,
+    eeprom: &[u8],
+    script: &[u8],
+    served: bool,
+    fails: Fails,
+) -> Result<Discovery, Fail>
+    requires { length eeprom.now ≤ 2048 }
+{
     let mut words = Vec::new(alloc);
     words.push(String::from_str(alloc, "discover")?)?;
     // The plant is not called: its first call fails.
     let mut plant = SimPlant::new(alloc, b"", b"", &[1])?;
-    Ok(onie(
+    let mut eeprom = MemEeprom::new(alloc, eeprom, &[])?;
+    let mut media = MemMedia::new(alloc, &[fails.media])?;
+    media.add(b"usb0", b"onie-installer", b"12345")?;
+    if served {
+        media.add(b"net", b"img", b"x")?;
+    }
+    let mut script = MemSource::new(alloc, script, &[fails.script])?;
+    let mut console = MemSink::new(alloc, &[fails.console])?;
+    let mut trace = MemSink::new(alloc, &[1])?;
+    let status = answer(
         alloc,
         &words,
         &mut plant,
-        &mut devices.eeprom,
-        &mut devices.media,
-        &mut devices.script,
-        &mut devices.console,
-        &mut devices.trace,
-    ))
+        &mut eeprom,
+        &mut media,
+        &mut script,
+        &mut console,
+        &mut trace,
+    );
+    let rest = script.read(&mut [0; 8]).ok();
+    Ok(Discovery {
+        status,
+        console,
+        trace,
+        rest,
+    })
 }
 
 /// What `discover` prints for the board over the volume `usb0`.
@@ -189,12 +203,15 @@ fn a_wrong_script_is_refused(rt: HostRuntime) -> Result<(), Fail> {
         ),
     ];
     for (script, line, kind, text) in rows {
-        let mut devices = board_with(rt.alloc(), script.as_bytes(), NO_FAILS)?;
-        let status = discover(rt.alloc(), &mut devices)?;
-        assert_eq!(rt; status, Status::BadScript { line, kind }, "{script}");
-        assert_eq!(rt; status.number(), 5);
-        assert_eq!(rt; devices.console.as_slice(), text.as_bytes());
-        assert_eq!(rt; devices.trace.as_slice(), b"".as_slice());
+        let discovery = discover(rt.alloc(), BOARD, script.as_bytes(), false, NO_FAILS)?;
+        assert_eq!(rt;
+            discovery.status,
+            Status::BadScript { line, kind },
+            "{script}"
+        );
+        assert_eq!(rt; discovery.status.number(), 5);
+        assert_eq!(rt; discovery.console.as_slice(), text.as_bytes());
+        assert!(rt; discovery.trace.as_slice().is_empty());
     }
     Ok(())
 }
@@ -204,13 +221,11 @@ fn a_wrong_script_is_refused(rt: HostRuntime) -> Result<(), Fail> {
 #[test]
 fn a_script_is_played(rt: HostRuntime) -> Result<(), Fail> {
     for script in ["", SERVES, "flow 1 dns\nat 5 end\n"] {
-        let mut devices = board_with(rt.alloc(), script.as_bytes(), NO_FAILS)?;
-        devices.media.add(b"net", b"img", b"x")?;
-        let status = discover(rt.alloc(), &mut devices)?;
-        assert_eq!(rt; status, Status::Done(Outcome::Printed));
-        assert_eq!(rt; devices.console.as_slice(), LISTED.as_bytes());
-        assert_eq!(rt; devices.trace.as_slice(), b"".as_slice());
-        assert_eq!(rt; devices.script.read(&mut [0; 8])?, 0);
+        let discovery = discover(rt.alloc(), BOARD, script.as_bytes(), true, NO_FAILS)?;
+        assert_eq!(rt; discovery.status, Status::Done(Outcome::Printed));
+        assert_eq!(rt; discovery.console.as_slice(), LISTED.as_bytes());
+        assert!(rt; discovery.trace.as_slice().is_empty());
+        assert_eq!(rt; discovery.rest, Some(0));
     }
     Ok(())
 }
@@ -220,12 +235,11 @@ fn a_script_is_played(rt: HostRuntime) -> Result<(), Fail> {
 fn a_long_script_is_refused(rt: HostRuntime) -> Result<(), Fail> {
     let mut text = Vec::new(rt.alloc());
     text.resize(16_777_217, b'\n')?;
-    let mut long = board_with(rt.alloc(), text.as_slice(), NO_FAILS)?;
-    let status = discover(rt.alloc(), &mut long)?;
+    let discovery = discover(rt.alloc(), BOARD, text.as_slice(), false, NO_FAILS)?;
     let kind = ScriptKind::TooLong;
-    assert_eq!(rt; status, Status::BadScript { line: 0, kind });
+    assert_eq!(rt; discovery.status, Status::BadScript { line: 0, kind });
     assert_eq!(rt;
-        long.console.as_slice(),
+        discovery.console.as_slice(),
         b"onie: script line 0: too long\n".as_slice()
     );
     Ok(())
@@ -316,11 +330,10 @@ fn a_fault_ends_the_reading(rt: HostRuntime) -> Result<(), Fail> {
             "",
         ),
     ] {
-        let mut devices = board_with(rt.alloc(), script.as_bytes(), fails)?;
-        let status = discover(rt.alloc(), &mut devices)?;
-        assert_eq!(rt; status, want);
-        assert_eq!(rt; status.number(), number);
-        assert_eq!(rt; devices.console.as_slice(), text.as_bytes());
+        let discovery = discover(rt.alloc(), BOARD, script.as_bytes(), false, fails)?;
+        assert_eq!(rt; discovery.status, want);
+        assert_eq!(rt; discovery.status.number(), number);
+        assert_eq!(rt; discovery.console.as_slice(), text.as_bytes());
     }
     Ok(())
 }
@@ -334,16 +347,14 @@ fn the_eeprom_comes_before_the_script(rt: HostRuntime) -> Result<(), Fail> {
         script: 1,
         console: 0,
     };
-    let mut devices = board_with(rt.alloc(), b"at 5 end\n", fails)?;
-    devices.eeprom = MemEeprom::new(rt.alloc(), b"", &[])?;
-    let status = discover(rt.alloc(), &mut devices)?;
+    let discovery = discover(rt.alloc(), b"", b"at 5 end\n", false, fails)?;
     let kind = EepromKind::Tlv(TlvKind::NotTlv);
-    assert_eq!(rt; status, Status::BadEeprom(kind));
-    assert_eq!(rt; status.number(), 4);
+    assert_eq!(rt; discovery.status, Status::BadEeprom(kind));
+    assert_eq!(rt; discovery.status.number(), 4);
     assert_eq!(rt;
-        devices.console.as_slice(),
+        discovery.console.as_slice(),
         b"onie: eeprom: not tlv\n".as_slice()
     );
-    assert!(rt; devices.script.read(&mut [0; 8]).is_err());
+    assert_eq!(rt; discovery.rest, None);
     Ok(())
 }

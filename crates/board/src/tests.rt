@@ -1,6 +1,7 @@
 //! Boards in memory that are opened and changed, cut at each moment or failing at each call.
 
-ghost use Rattle.std.specs.Prelude.{◌≡◌, ◌≤◌, ◌-◌, ◌%◌, length};
+ghost use Rattle.std.specs.Prelude.{◌≡◌, ◌≤◌, ◌-◌, ◌%◌, length, OnOk};
+ghost use Rattle.board.specs.Held.{IsLive};
 ghost use Rattle.cuts.specs.Orderly.{IsLawfulTable};
 ghost use Rattle.gpt_copy.specs.Copy.{FitsDisk};
 ghost use Rattle.storage_model.specs.Entries.{IsSane};
@@ -191,37 +192,65 @@ fn without_nos(table: &Table) -> Table
     }
 }
 
-/// Opens the board and makes eight changes of it, one after the other. Answers how many effects were noted, and
-/// whether all were done.
-fn change(alloc: Global, plant: &mut SimPlant) -> Result<(usize, bool), OpenFault> {
+/// A change of a board.
+#[derive(Clone, Copy)]
+enum Change<'a> {
+    /// A put of one sector of bytes of this value.
+    PutOne(u64, u8),
+    /// The same of two sectors.
+    PutTwo(u64, u8),
+    Sync,
+    /// The table with the NOS as its second entry.
+    AddNos,
+    /// The table without its second entry.
+    DropNos,
+    Set(&'a [u8], &'a [u8]),
+    Unset(&'a [u8]),
+}
+
+/// Makes a change. It promises no more than that the board then takes the next one: what a change does is what the tests
+/// look at.
+fn make<P: Plant>(board: &mut Board<P>, change: Change) -> Result<(), BoardFault>
+    requires live { IsLive (P.view board.old.plant.now) board.old.held }
+    ensures same_reference { board.new.plant.ghost_name ≡ board.old.plant.ghost_name }
+    ensures live { OnOk result (IsLive (P.view board.new.plant.now) board.new.held) }
+{
+    match change {
+        Change::PutOne(lba, byte) => board.put(lba, &[byte; 512]),
+        Change::PutTwo(lba, byte) => board.put(lba, &[byte; 1024]),
+        Change::Sync => board.sync(),
+        Change::AddNos => {
+            let table = with_nos(board.table());
+            board.set_table(&table)
+        }
+        Change::DropNos => {
+            let table = without_nos(board.table());
+            board.set_table(&table)
+        }
+        Change::Set(name, value) => board.set_var(name, value),
+        Change::Unset(name) => board.unset_var(name),
+    }
+}
+
+/// Makes eight changes of a board, one after the other, up to the first that fails.
+fn eight_changes<P: Plant>(board: &mut Board<P>) -> Result<(), BoardFault>
+    requires live { IsLive (P.view board.old.plant.now) board.old.held }
+{
+    make(board, Change::PutOne(51, 0xA1))?;
+    make(board, Change::Sync)?;
+    make(board, Change::AddNos)?;
+    make(board, Change::PutTwo(52, 0xB2))?;
+    make(board, Change::PutOne(0, 0xC3))?;
+    make(board, Change::DropNos)?;
+    make(board, Change::PutOne(51, 0xD4))?;
+    make(board, Change::Sync)
+}
+
+/// Opens the board and makes these changes. Answers how many effects were noted, and whether all were done.
+fn make_eight(alloc: Global, plant: &mut SimPlant) -> Result<(usize, bool), OpenFault> {
     let mut board = Board::open(alloc, plant)?;
-    if let Err(_) = board.put(51, &[0xA1; 512]) {
-        return Ok((board.journal().len(), false));
-    }
-    if let Err(_) = board.sync() {
-        return Ok((board.journal().len(), false));
-    }
-    let with = with_nos(board.table());
-    if let Err(_) = board.set_table(&with) {
-        return Ok((board.journal().len(), false));
-    }
-    if let Err(_) = board.put(52, &[0xB2; 1024]) {
-        return Ok((board.journal().len(), false));
-    }
-    if let Err(_) = board.put(0, &[0xC3; 512]) {
-        return Ok((board.journal().len(), false));
-    }
-    let without = without_nos(board.table());
-    if let Err(_) = board.set_table(&without) {
-        return Ok((board.journal().len(), false));
-    }
-    if let Err(_) = board.put(51, &[0xD4; 512]) {
-        return Ok((board.journal().len(), false));
-    }
-    if let Err(_) = board.sync() {
-        return Ok((board.journal().len(), false));
-    }
-    Ok((board.journal().len(), true))
+    let all = eight_changes(&mut board).is_ok();
+    Ok((board.journal().len(), all))
 }
 
 /// What a board reads after so many of these changes: whether it has the NOS, and the first bytes of sectors 51, 52
@@ -265,7 +294,7 @@ fn reads(alloc: Global, plant: &mut SimPlant) -> Result<Option<(bool, u8, u8, u8
 #[test]
 fn all_changes_are_done_and_noted(rt: HostRuntime) -> Result<(), Fail> {
     let mut plant = sound(rt.alloc(), &[])?;
-    assert_eq!(rt; change(rt.alloc(), &mut plant), Ok((8, true)));
+    assert_eq!(rt; make_eight(rt.alloc(), &mut plant), Ok((8, true)));
     assert_eq!(rt; reads(rt.alloc(), &mut plant)?, Some(state(8)));
     Ok(())
 }
@@ -280,10 +309,10 @@ fn holds(alloc: Global, plant: &mut SimPlant, noted: usize) -> Result<bool, Fail
 #[test]
 fn each_call_fails_in_turn(rt: HostRuntime) -> Result<(), Fail> {
     let mut done = sound(rt.alloc(), &[])?;
-    assert_eq!(rt; change(rt.alloc(), &mut done), Ok((8, true)));
+    assert_eq!(rt; make_eight(rt.alloc(), &mut done), Ok((8, true)));
     for number in 1..=done.calls() {
         let mut plant = sound(rt.alloc(), &[number])?;
-        match change(rt.alloc(), &mut plant) {
+        match make_eight(rt.alloc(), &mut plant) {
             Ok((noted, all)) => {
                 assert!(rt; !all, "{number}");
                 assert!(rt; holds(rt.alloc(), &mut plant, noted)?, "{number}");
@@ -401,7 +430,7 @@ fn survives(alloc: Global, plant: &SimPlant, moment: u64, way: Pick) -> Result<b
 fn each_power_cut_leaves_a_sound_board(rt: HostRuntime) -> Result<(), Fail> {
     let alloc = rt.alloc();
     let mut plant = sound(alloc, &[])?;
-    assert_eq!(rt; change(alloc, &mut plant), Ok((8, true)));
+    assert_eq!(rt; make_eight(alloc, &mut plant), Ok((8, true)));
     for moment in 0..=plant.calls() {
         for way in [Pick::Old, Pick::New, Pick::Torn(0), Pick::Torn(255)] {
             assert!(rt; survives(alloc, &plant, moment, way)?, "{moment}");
@@ -410,20 +439,23 @@ fn each_power_cut_leaves_a_sound_board(rt: HostRuntime) -> Result<(), Fail> {
     Ok(())
 }
 
-/// Sets memory aside, sets and unsets variables, and answers how many effects were noted, with the text at the end.
-fn vary(alloc: Global, plant: &mut SimPlant) -> Result<(usize, Vec<u8>), Fail> {
+/// Sets and unsets variables, the last of which is not there.
+fn three_changes<P: Plant>(board: &mut Board<P>) -> Result<(), BoardFault>
+    requires live { IsLive (P.view board.old.plant.now) board.old.held }
+{
+    make(board, Change::Set(b"nos_bootcmd", b"boot x"))?;
+    make(board, Change::Unset(b"onie_boot_reason"))?;
+    make(board, Change::Unset(b"absent"))
+}
+
+/// Opens the board and makes these changes. Answers how many effects were noted, with the text at the end.
+fn make_three(alloc: Global, plant: &mut SimPlant) -> Result<(usize, Vec<u8>), Fail> {
     let mut board = match Board::open(alloc, plant) {
         Ok(board) => board,
         Err(_) => return Err(Fail::new("not opened")),
     };
-    if let Err(_) = board.set_var(b"nos_bootcmd", b"boot x") {
-        return Err(Fail::new("not set"));
-    }
-    if let Err(_) = board.unset_var(b"onie_boot_reason") {
-        return Err(Fail::new("not unset"));
-    }
-    if let Err(_) = board.unset_var(b"absent") {
-        return Err(Fail::new("not left"));
+    if let Err(_) = three_changes(&mut board) {
+        return Err(Fail::new("not changed"));
     }
     Ok((
         board.journal().len(),
@@ -434,49 +466,37 @@ fn vary(alloc: Global, plant: &mut SimPlant) -> Result<(usize, Vec<u8>), Fail> {
 #[test]
 fn variables_are_set_and_unset(rt: HostRuntime) -> Result<(), Fail> {
     let mut plant = sound(rt.alloc(), &[])?;
-    let (effects, text) = vary(rt.alloc(), &mut plant)?;
+    let (effects, text) = make_three(rt.alloc(), &mut plant)?;
     assert_eq!(rt; effects, 2);
     assert!(rt; text.as_slice() == b"nos_bootcmd=boot x\0".as_slice());
     assert!(rt; reads(rt.alloc(), &mut plant)?.is_some());
     Ok(())
 }
 
-/// Opens a board and installs a NOS on it, which it then boots, and takes it off again: ten effects of all kinds, in an
-/// orderly run. Answers how many were noted.
+/// Installs a NOS on a board, which it then boots, and takes it off again: ten effects of all kinds, in an orderly run, up
+/// to the first that fails.
+fn ten_changes<P: Plant>(board: &mut Board<P>) -> Result<(), BoardFault>
+    requires live { IsLive (P.view board.old.plant.now) board.old.held }
+{
+    make(board, Change::AddNos)?;
+    make(board, Change::PutTwo(51, 0xA1))?;
+    make(board, Change::Sync)?;
+    make(
+        board,
+        Change::Set(b"nos_bootcmd", b"boot 02020202-0202-0202-0202-020202020202"),
+    )?;
+    make(board, Change::Unset(b"onie_boot_reason"))?;
+    make(board, Change::PutOne(60, 0xB2))?;
+    make(board, Change::Sync)?;
+    make(board, Change::Set(b"onie_boot_reason", b"uninstall"))?;
+    make(board, Change::Unset(b"nos_bootcmd"))?;
+    make(board, Change::DropNos)
+}
+
+/// Opens a board and makes these changes. Answers how many effects were noted.
 fn install(alloc: Global, plant: &mut SimPlant) -> Result<usize, OpenFault> {
     let mut board = Board::open(alloc, plant)?;
-    let with = with_nos(board.table());
-    if let Err(_) = board.set_table(&with) {
-        return Ok(board.journal().len());
-    }
-    if let Err(_) = board.put(51, &[0xA1; 1024]) {
-        return Ok(board.journal().len());
-    }
-    if let Err(_) = board.sync() {
-        return Ok(board.journal().len());
-    }
-    if let Err(_) = board.set_var(b"nos_bootcmd", b"boot 02020202-0202-0202-0202-020202020202") {
-        return Ok(board.journal().len());
-    }
-    if let Err(_) = board.unset_var(b"onie_boot_reason") {
-        return Ok(board.journal().len());
-    }
-    if let Err(_) = board.put(60, &[0xB2; 512]) {
-        return Ok(board.journal().len());
-    }
-    if let Err(_) = board.sync() {
-        return Ok(board.journal().len());
-    }
-    if let Err(_) = board.set_var(b"onie_boot_reason", b"uninstall") {
-        return Ok(board.journal().len());
-    }
-    if let Err(_) = board.unset_var(b"nos_bootcmd") {
-        return Ok(board.journal().len());
-    }
-    let without = without_nos(board.table());
-    if let Err(_) = board.set_table(&without) {
-        return Ok(board.journal().len());
-    }
+    let _ended = ten_changes(&mut board);
     Ok(board.journal().len())
 }
 

@@ -3,7 +3,7 @@
 ghost use Rattle.std.specs.Prelude.{◌<◌};
 
 use crate::change_tests::{Change, make, text_of};
-use crate::tests::flash;
+use crate::tests::plant_of;
 use bd_dev::Area;
 use bd_sim::{Pick, SimPlant};
 use std::alloc::Global;
@@ -134,7 +134,7 @@ fn any_change<'a>(numbers: &mut Numbers, value: &'a [u8; 1200]) -> Change<'a> {
 fn survives(alloc: Global, seed: u64) -> Result<bool, Fail> {
     let mut numbers = Numbers { state: seed };
     let value = [b'v'; 1200];
-    let mut plant = SimPlant::new(alloc, &[], &flash(alloc, b"a=1\0")?, &[])?;
+    let mut plant = plant_of(alloc, b"a=1\0", &[])?;
     for _ in 0..1 + numbers.next(6) {
         let before = text_of(alloc, &mut plant)?;
         let from = plant.calls();
@@ -213,12 +213,7 @@ fn a_crash_of_a_change_leaves_before_or_after_eighth(rt: HostRuntime) -> Result<
 #[test]
 fn a_crash_of_two_sets_leaves_the_one_or_the_other(rt: HostRuntime) -> Result<(), Fail> {
     let mut numbers = Numbers { state: 1 };
-    let mut plant = SimPlant::new(
-        rt.alloc(),
-        &[],
-        &flash(rt.alloc(), b"onie_boot_reason=install\0")?,
-        &[],
-    )?;
+    let mut plant = plant_of(rt.alloc(), b"onie_boot_reason=install\0", &[])?;
     let steps: [(&[u8], &[u8], &[u8]); 2] = [
         (
             b"1",

@@ -10,18 +10,26 @@ use std::test::Fail;
 
 const OPEN: &[u8; 8] = b"ONIEOPEN";
 
+/// Puts bytes at an offset, where there is room.
+fn fill(flash: &mut [u8], at: usize, bytes: &[u8])
+    ensures { length flash.new ≡ length flash.old }
+{
+    if at <= flash.len() && bytes.len() <= flash.len() - at {
+        flash[at..at + bytes.len()].copy_from_slice(bytes);
+    }
+}
+
 /// Makes the slot whose gate is in this sector, with an open gate.
 pub(crate) fn put(flash: &mut [u8], gate: usize, number: u64, text: &[u8])
-    requires size { length flash.old ≡ 17408 }
-    requires room { 512 * gate + 8704 ≤ 17408 }
+    requires gate { gate ≤ 34 }
     requires short { length text.now ≤ 8180 }
-    ensures { length flash.new ≡ 17408 }
+    ensures { length flash.new ≡ length flash.old }
 {
     let at = 512 * gate;
-    flash[at..at + 8].copy_from_slice(OPEN);
-    flash[at + 512..at + 520].copy_from_slice(&number.to_le_bytes());
-    flash[at + 520..at + 524].copy_from_slice(&(text.len() as u32).to_le_bytes());
-    flash[at + 524..at + 524 + text.len()].copy_from_slice(text);
+    fill(flash, at, OPEN);
+    fill(flash, at + 512, &number.to_le_bytes());
+    fill(flash, at + 520, &(text.len() as u32).to_le_bytes());
+    fill(flash, at + 524, text);
 }
 
 /// A flash of 34 sectors, whose second slot holds the text, and whose first one is closed.
@@ -37,11 +45,26 @@ pub(crate) fn flash(alloc: Global, text: &[u8]) -> Result<Vec<u8>, Fail>
     Ok(flash)
 }
 
+/// A plant with the flash of this text, whose calls of these numbers fail. It promises nothing: what a plant in memory
+/// is need not be read for each test.
+pub(crate) fn plant_of(alloc: Global, text: &[u8], fails: &[u64]) -> Result<SimPlant, Fail>
+    requires { length text.now ≤ 8180 }
+{
+    plant_with(alloc, &flash(alloc, text)?, fails)
+}
+
+/// A plant with this flash.
+pub(crate) fn plant_with(alloc: Global, flash: &[u8], fails: &[u64]) -> Result<SimPlant, Fail>
+    requires { length flash.now ≡ 17408 }
+{
+    Ok(SimPlant::new(alloc, &[], flash, fails)?)
+}
+
 /// Opens the variables of this text.
 fn open(rt: &HostRuntime, text: &[u8]) -> Result<Result<BootVars, VarsFault>, Fail>
     requires { length text.now ≤ 8180 }
 {
-    let mut plant = SimPlant::new(rt.alloc(), &[], &flash(rt.alloc(), text)?, &[])?;
+    let mut plant = plant_of(rt.alloc(), text, &[])?;
     Ok(BootVars::open(&mut plant))
 }
 
@@ -216,33 +239,43 @@ fn a_system_is_named(rt: HostRuntime) -> Result<(), Fail> {
     Ok(())
 }
 
+/// Why no variables are read from this flash, or nothing where some are.
+fn fault_of(alloc: Global, flash: &[u8]) -> Result<Option<VarsFault>, Fail>
+    requires { length flash.now ≡ 17408 }
+{
+    let mut plant = plant_with(alloc, flash, &[])?;
+    match BootVars::open(&mut plant) {
+        Ok(_) => Ok(None),
+        Err(fault) => Ok(Some(fault)),
+    }
+}
+
 #[test]
 fn the_current_slot_alone_is_read(rt: HostRuntime) -> Result<(), Fail> {
     let mut flash = flash(rt.alloc(), b"bad\0")?;
     put(&mut flash, 0, 8, b"good=1\0");
-    let mut plant = SimPlant::new(rt.alloc(), &[], &flash, &[])?;
-    assert!(rt;
-        matches!(
-            &BootVars::open(&mut plant),
-            Err(VarsFault::BadLine { at: 0 })
-        )
-    );
+    let bad = VarsFault::BadLine { at: 0 };
+    assert_eq!(rt; fault_of(rt.alloc(), &flash)?, Some(bad));
     put(&mut flash, 0, 9, b"good=1\0");
-    let mut plant = SimPlant::new(rt.alloc(), &[], &flash, &[])?;
-    assert!(rt; BootVars::open(&mut plant).is_ok());
+    assert_eq!(rt; fault_of(rt.alloc(), &flash)?, None);
+    assert_eq!(rt; fault_of(rt.alloc(), &[0; 17408])?, Some(VarsFault::NoSlot));
+    Ok(())
+}
+
+/// The disk holds no variables, nor does a flash of 33 sectors.
+#[test]
+fn the_flash_alone_has_variables(rt: HostRuntime) -> Result<(), Fail> {
+    let flash = flash(rt.alloc(), b"a=1\0")?;
     let (all_but_one, _) = flash.split_at(16896);
     let mut plant = SimPlant::new(rt.alloc(), &flash, all_but_one, &[])?;
-    assert!(rt; matches!(&BootVars::open(&mut plant), Err(VarsFault::NoSlot)));
-    let mut plant = SimPlant::new(rt.alloc(), &flash, &[0; 17408], &[])?;
     assert!(rt; matches!(&BootVars::open(&mut plant), Err(VarsFault::NoSlot)));
     Ok(())
 }
 
 #[test]
 fn a_call_that_fails_is_a_fault(rt: HostRuntime) -> Result<(), Fail> {
-    let flash = flash(rt.alloc(), b"a=1\0")?;
     for call in 1..=3 {
-        let mut plant = SimPlant::new(rt.alloc(), &[], &flash, &[call])?;
+        let mut plant = plant_of(rt.alloc(), b"a=1\0", &[call])?;
         assert!(rt;
             matches!(&BootVars::open(&mut plant), Err(VarsFault::Fault)),
             "{call}"

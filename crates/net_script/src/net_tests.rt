@@ -1,6 +1,6 @@
 //! Networks that play scripts.
 
-ghost use Rattle.std.specs.Prelude.{IfOk, None, ◌≡◌, [], length};
+ghost use Rattle.std.specs.Prelude.{IfOk, None, ◌≡◌, ◌+◌, ◌<◌, ◌≤◌, [], length};
 ghost use Rattle.tftp_client.specs.Core.{IsNewTftp};
 
 use super::*;
@@ -134,14 +134,37 @@ fn written_arrivals_come(rt: HostRuntime) -> Result<(), Fail> {
     Ok(())
 }
 
+/// Opens a flow. This function and those below it promise nothing but that few flows are open: the many clauses of a
+/// network are read in them alone.
+fn open(net: &mut ScriptNet, round: u32, label: &[u8]) -> Result<u32, DevFault>
+    requires few { length net.old.flows < 9 }
+    ensures one_more { length net.new.flows ≤ length net.old.flows + 1 }
+{
+    net.open(round, label)
+}
+
+/// What comes before this time, which is not past: otherwise this fails without a call.
+fn next(net: &mut ScriptNet, until: u64) -> Result<Next, DevFault>
+    ensures same { length net.new.flows ≡ length net.old.flows }
+{
+    if until < net.now() {
+        return Err(DevFault::Failed);
+    }
+    net.next(until)
+}
+
+/// Whether nothing comes before this time.
+fn is_quiet(net: &mut ScriptNet, until: u64) -> Result<bool, Fail>
+    ensures same { length net.new.flows ≡ length net.old.flows }
+{
+    Ok(matches!(next(net, until)?, Next::Quiet) && net.now() == until)
+}
+
 /// Whether this byte of a stream came to this flow at this time.
 fn came(net: &mut ScriptNet, number: u32, time: u64, want: u8) -> Result<bool, Fail>
-    ensures { length net.new.flows ≡ length net.old.flows }
+    ensures same { length net.new.flows ≡ length net.old.flows }
 {
-    if net.now() > 99999 {
-        return Ok(false);
-    }
-    match net.next(99999)? {
+    match next(net, 99999)? {
         Next::Came {
             flow,
             arrival: Arrival::Stream(bytes),
@@ -150,22 +173,26 @@ fn came(net: &mut ScriptNet, number: u32, time: u64, want: u8) -> Result<bool, F
     }
 }
 
+/// Closes a flow.
+fn close(net: &mut ScriptNet, number: u32)
+    ensures same { length net.new.flows ≡ length net.old.flows }
+{
+    net.close(number);
+}
+
 #[test]
 fn arrivals_come_in_order_of_time_and_of_lines(rt: HostRuntime) -> Result<(), Fail> {
     let text =
         b"flow 1 a\nat 30 tcp 01\nat 10 tcp 02\nflow 2 a\nat 5 tcp 03\nflow 1 b\nat 5 tcp 04\niface eth0\nat 40 tcp 05\nflow * a\nat 10 tcp 06\nat 0 tcp 07\nflow 1 a \nat 1 tcp 08";
     let mut net = net(rt.alloc(), text, 0)?;
-    assert!(rt; net.now() == 0);
-    assert!(rt; matches!(net.next(7)?, Next::Quiet));
-    assert_eq!(rt; net.open(1, b"a")?, 0);
+    assert!(rt; is_quiet(&mut net, 7)?);
+    assert_eq!(rt; open(&mut net, 1, b"a")?, 0);
     net.send(0, 69, b"nobody hears this")?;
     assert!(rt; came(&mut net, 0, 7, 7)?);
     assert!(rt; came(&mut net, 0, 17, 2)?);
     assert!(rt; came(&mut net, 0, 17, 6)?);
     assert!(rt; came(&mut net, 0, 37, 1)?);
-    assert!(rt; net.now() == 37);
-    assert!(rt; matches!(net.next(1000)?, Next::Quiet));
-    assert_eq!(rt; net.now(), 1000);
+    assert!(rt; is_quiet(&mut net, 1000)?);
     Ok(())
 }
 
@@ -174,17 +201,17 @@ fn each_opening_of_a_label_sees_all_of_it(rt: HostRuntime) -> Result<(), Fail> {
     let text = b"flow * a\nat 10 tcp 01\nat 30 tcp 02";
     for round in [1, 99] {
         let mut net = net(rt.alloc(), text, 0)?;
-        assert_eq!(rt; net.open(round, b"a")?, 0);
+        assert_eq!(rt; open(&mut net, round, b"a")?, 0);
         assert!(rt; came(&mut net, 0, 10, 1)?);
-        assert_eq!(rt; net.open(round, b"a")?, 1);
+        assert_eq!(rt; open(&mut net, round, b"a")?, 1);
         assert!(rt; came(&mut net, 1, 20, 1)?);
         assert!(rt; came(&mut net, 0, 30, 2)?);
-        net.close(0);
-        net.close(0);
+        close(&mut net, 0);
+        close(&mut net, 0);
         assert!(rt; came(&mut net, 1, 40, 2)?);
-        net.close(1);
-        net.close(7);
-        assert_eq!(rt; net.open(round, b"a")?, 2);
+        close(&mut net, 1);
+        close(&mut net, 7);
+        assert_eq!(rt; open(&mut net, round, b"a")?, 2);
         assert!(rt; came(&mut net, 2, 50, 1)?);
     }
     Ok(())
@@ -194,11 +221,10 @@ fn each_opening_of_a_label_sees_all_of_it(rt: HostRuntime) -> Result<(), Fail> {
 fn no_round_is_outside_of_1_to_99(rt: HostRuntime) -> Result<(), Fail> {
     let text = b"flow * a\nat 10 tcp 01\nflow 7 a\nat 10 tcp 02";
     let mut net = net(rt.alloc(), text, 0)?;
-    assert_eq!(rt; net.open(0, b"a")?, 0);
-    assert_eq!(rt; net.open(100, b"a")?, 1);
-    assert!(rt; net.now() == 0);
-    assert!(rt; matches!(net.next(50)?, Next::Quiet));
-    assert_eq!(rt; net.open(7, b"a")?, 2);
+    assert_eq!(rt; open(&mut net, 0, b"a")?, 0);
+    assert_eq!(rt; open(&mut net, 100, b"a")?, 1);
+    assert!(rt; is_quiet(&mut net, 50)?);
+    assert_eq!(rt; open(&mut net, 7, b"a")?, 2);
     assert!(rt; came(&mut net, 2, 60, 1)?);
     assert!(rt; came(&mut net, 2, 60, 2)?);
     Ok(())
@@ -207,9 +233,8 @@ fn no_round_is_outside_of_1_to_99(rt: HostRuntime) -> Result<(), Fail> {
 #[test]
 fn a_deadline_goes_before_an_arrival_of_its_time(rt: HostRuntime) -> Result<(), Fail> {
     let mut net = net(rt.alloc(), b"flow 1 a\nat 10 tcp 01", 0)?;
-    assert_eq!(rt; net.open(1, b"a")?, 0);
-    assert!(rt; net.now() == 0);
-    assert!(rt; matches!(net.next(10)?, Next::Quiet));
+    assert_eq!(rt; open(&mut net, 1, b"a")?, 0);
+    assert!(rt; is_quiet(&mut net, 10)?);
     assert!(rt; came(&mut net, 0, 10, 1)?);
     Ok(())
 }
@@ -281,37 +306,38 @@ impl Media for Shrunk {
     }
 }
 
+/// A network that serves a file of this length, of which the media give 600 bytes.
+fn long_file(alloc: Global, length: u64) -> Result<ScriptNet, ScriptFault>
+    ensures { IfOk result (λ net. net.flows ≡ []) }
+{
+    let script = read_script(alloc, b"tftp 1 10.0.0.1:69 img img 5")?;
+    ScriptNet::new(alloc, script, MAC, &mut Shrunk { length })
+}
+
+/// When a datagram comes, which is before this time, and its length.
+fn datagram(net: &mut ScriptNet, until: u64) -> Result<Option<(u64, usize)>, Fail>
+    ensures same { length net.new.flows ≡ length net.old.flows }
+{
+    match next(net, until)? {
+        Next::Came {
+            arrival: Arrival::Datagram { port: 40000, bytes },
+            ..
+        } => Ok(Some((net.now(), bytes.as_slice().len()))),
+        _ => Ok(None),
+    }
+}
+
 #[test]
 fn a_file_of_the_limit_is_served(rt: HostRuntime) -> Result<(), Fail> {
-    for (length, served) in [(268_435_456, true), (268_435_457, false)] {
-        let script = read_script(rt.alloc(), b"tftp 1 10.0.0.1:69 img img 5")?;
-        let mut media = Shrunk { length };
-        match ScriptNet::new(rt.alloc(), script, MAC, &mut media) {
-            Ok(mut net) => {
-                assert!(rt; served);
-                net.open(1, LABEL)?;
-                assert!(rt; net.now() == 0);
-                let first = net.next(10)?;
-                assert!(rt;
-                    matches!(&first, Next::Came { arrival: Arrival::Datagram { port: 40000, bytes }, .. } if bytes.as_slice().len() == 516)
-                );
-                assert!(rt; net.now() == 5);
-                let last = net.next(11)?;
-                assert!(rt;
-                    matches!(&last, Next::Came { arrival: Arrival::Datagram { port: 40000, bytes }, .. } if bytes.as_slice().len() == 92)
-                );
-                assert!(rt; net.now() == 10);
-                assert!(rt; matches!(net.next(99)?, Next::Quiet));
-            }
-            Err(fault) => {
-                assert!(rt; !served);
-                let want = ScriptFault::Bad {
-                    line: 1,
-                    kind: ScriptKind::NoBody,
-                };
-                assert_eq!(rt; fault, want);
-            }
-        }
-    }
+    let mut net = long_file(rt.alloc(), 268_435_456)?;
+    open(&mut net, 1, LABEL)?;
+    assert_eq!(rt; datagram(&mut net, 10)?, Some((5, 516)));
+    assert_eq!(rt; datagram(&mut net, 11)?, Some((10, 92)));
+    assert!(rt; is_quiet(&mut net, 99)?);
+    let want = ScriptFault::Bad {
+        line: 1,
+        kind: ScriptKind::NoBody,
+    };
+    assert!(rt; matches!(&long_file(rt.alloc(), 268_435_457), Err(fault) if *fault == want));
     Ok(())
 }

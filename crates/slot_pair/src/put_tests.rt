@@ -1,7 +1,7 @@
 //! Puts and formats of a pair of slots of two sectors of body, cut at each moment or failing at each call.
 
 use super::*;
-use crate::tests::{CLOSED, OPEN, flash, reads};
+use crate::tests::{CLOSED, OPEN, plant_of, reads};
 use bd_dev::{Area, Plant};
 use bd_sim::{Pick, SimPlant};
 use std::test::Fail;
@@ -80,8 +80,7 @@ fn a_crash_of_a_put_leaves_the_old_or_the_new(rt: HostRuntime) -> Result<(), Fai
     ];
     for (first, second, old) in slots {
         for new in [b"".as_slice(), b"new", &[b'n'; 1012]] {
-            let flash = flash(first, second);
-            let mut plant = SimPlant::new(rt.alloc(), &[], &flash, &[])?;
+            let mut plant = plant_of(rt.alloc(), first, second, &[])?;
             put_content(&mut plant, new)?;
             assert_eq!(rt; left(&plant, old, new)?, [true, true, false, false]);
             assert_eq!(rt; reads(&mut plant, new), Ok(true));
@@ -99,8 +98,7 @@ fn a_crash_of_a_format_leaves_the_old_the_new_or_none(rt: HostRuntime) -> Result
         ((CLOSED, 9), (OPEN, 2), b"second"),
     ];
     for (first, second, old) in slots {
-        let flash = flash(first, second);
-        let mut plant = SimPlant::new(rt.alloc(), &[], &flash, &[])?;
+        let mut plant = plant_of(rt.alloc(), first, second, &[])?;
         format_with(&mut plant, b"new")?;
         assert_eq!(rt; left(&plant, old, b"new")?, [true, true, true, false]);
         assert_eq!(rt; reads(&mut plant, b"new"), Ok(true));
@@ -110,8 +108,7 @@ fn a_crash_of_a_format_leaves_the_old_the_new_or_none(rt: HostRuntime) -> Result
 
 #[test]
 fn an_unmade_pair_is_formatted(rt: HostRuntime) -> Result<(), Fail> {
-    let flash = flash((CLOSED, 1), (CLOSED, 2));
-    let mut plant = SimPlant::new(rt.alloc(), &[], &flash, &[])?;
+    let mut plant = plant_of(rt.alloc(), (CLOSED, 1), (CLOSED, 2), &[])?;
     format_with(&mut plant, &[7; 1012])?;
     assert_eq!(rt; left(&plant, b"", &[7; 1012])?, [false, true, true, false]);
     assert_eq!(rt; plant.calls(), 10);
@@ -121,8 +118,7 @@ fn an_unmade_pair_is_formatted(rt: HostRuntime) -> Result<(), Fail> {
 #[test]
 fn a_put_follows_one_that_failed(rt: HostRuntime) -> Result<(), Fail> {
     for call in 1..=10 {
-        let flash = flash((OPEN, 1), (OPEN, 2));
-        let mut plant = SimPlant::new(rt.alloc(), &[], &flash, &[call])?;
+        let mut plant = plant_of(rt.alloc(), (OPEN, 1), (OPEN, 2), &[call])?;
         assert_eq!(rt;
             put_content(&mut plant, b"new"),
             Err(PutFault::Fault),
@@ -137,8 +133,7 @@ fn a_put_follows_one_that_failed(rt: HostRuntime) -> Result<(), Fail> {
 #[test]
 fn a_format_follows_one_that_failed(rt: HostRuntime) -> Result<(), Fail> {
     for call in 1..=13 {
-        let flash = flash((OPEN, 1), (OPEN, 2));
-        let mut plant = SimPlant::new(rt.alloc(), &[], &flash, &[call])?;
+        let mut plant = plant_of(rt.alloc(), (OPEN, 1), (OPEN, 2), &[call])?;
         assert_eq!(rt;
             format_with(&mut plant, b"new"),
             Err(PutFault::Fault),
@@ -155,12 +150,10 @@ fn a_put_writes_the_sectors_that_hold_bytes(rt: HostRuntime) -> Result<(), Fail>
     for (length, calls) in [(0, 10), (500, 10), (501, 11), (1012, 11)] {
         let content = [b'x'; 1012];
         let (content, _) = content.split_at(length);
-        let open = flash((OPEN, 1), (OPEN, 2));
-        let mut plant = SimPlant::new(rt.alloc(), &[], &open, &[])?;
+        let mut plant = plant_of(rt.alloc(), (OPEN, 1), (OPEN, 2), &[])?;
         put_content(&mut plant, content)?;
         assert_eq!(rt; plant.calls(), calls, "{length} bytes over an open slot");
-        let closed = flash((CLOSED, 1), (OPEN, 2));
-        let mut plant = SimPlant::new(rt.alloc(), &[], &closed, &[])?;
+        let mut plant = plant_of(rt.alloc(), (CLOSED, 1), (OPEN, 2), &[])?;
         put_content(&mut plant, content)?;
         assert_eq!(rt;
             plant.calls(),
@@ -179,8 +172,7 @@ fn a_refused_put_makes_no_call(rt: HostRuntime) -> Result<(), Fail> {
         (u64::MAX, b"new", PutFault::SeqEnd),
     ];
     for (number, content, fault) in cases {
-        let flash = flash((CLOSED, 1), (OPEN, number));
-        let mut plant = SimPlant::new(rt.alloc(), &[], &flash, &[])?;
+        let mut plant = plant_of(rt.alloc(), (CLOSED, 1), (OPEN, number), &[])?;
         assert_eq!(rt; put_content(&mut plant, content), Err(fault));
         assert_eq!(rt; plant.calls(), 3);
         assert_eq!(rt; reads(&mut plant, b"second"), Ok(true));
@@ -190,8 +182,7 @@ fn a_refused_put_makes_no_call(rt: HostRuntime) -> Result<(), Fail> {
 
 #[test]
 fn a_put_may_use_the_last_number(rt: HostRuntime) -> Result<(), Fail> {
-    let flash = flash((CLOSED, 1), (OPEN, u64::MAX - 1));
-    let mut plant = SimPlant::new(rt.alloc(), &[], &flash, &[])?;
+    let mut plant = plant_of(rt.alloc(), (CLOSED, 1), (OPEN, u64::MAX - 1), &[])?;
     assert_eq!(rt; put_content(&mut plant, b"last"), Ok(()));
     assert_eq!(rt; put_content(&mut plant, b"none"), Err(PutFault::SeqEnd));
     assert_eq!(rt; reads(&mut plant, b"last"), Ok(true));

@@ -5,6 +5,7 @@ ghost use Rattle.std.specs.Prelude.{◌≡◌, ◌*◌, ◌+◌, ◌≤◌, leng
 use super::*;
 use bd_dev::Area;
 use bd_sim::SimPlant;
+use std::alloc::Global;
 use std::test::Fail;
 
 pub(crate) const OPEN: &[u8; 8] = b"ONIEOPEN";
@@ -41,6 +42,24 @@ pub(crate) fn flash(first: (&[u8; 8], u64), second: (&[u8; 8], u64)) -> [u8; 358
     flash
 }
 
+/// A plant with the flash of these slots, whose calls of these numbers fail. It promises nothing: what a plant in
+/// memory is need not be read for each test.
+pub(crate) fn plant_of(
+    alloc: Global,
+    first: (&[u8; 8], u64),
+    second: (&[u8; 8], u64),
+    fails: &[u64],
+) -> Result<SimPlant, Fail> {
+    Ok(SimPlant::new(alloc, &[], &flash(first, second), fails)?)
+}
+
+/// A plant with this flash.
+fn plant_with(alloc: Global, flash: &[u8]) -> Result<SimPlant, Fail>
+    requires { length flash.now ≡ 3584 }
+{
+    Ok(SimPlant::new(alloc, &[], flash, &[])?)
+}
+
 /// Whether the pair's current content is this.
 pub(crate) fn reads(plant: &mut SimPlant, content: &[u8]) -> Result<bool, SlotFault> {
     let pair = SlotPair::<2>::open(plant, Area::Flash, 1)?;
@@ -61,8 +80,7 @@ fn the_greater_number_is_current(rt: HostRuntime) -> Result<(), Fail> {
         (255, 256, b"second"),
     ];
     for (first, second, content) in cases {
-        let flash = flash((OPEN, first), (OPEN, second));
-        let mut plant = SimPlant::new(rt.alloc(), &[], &flash, &[])?;
+        let mut plant = plant_of(rt.alloc(), (OPEN, first), (OPEN, second), &[])?;
         assert_eq!(rt; reads(&mut plant, content), Ok(true), "{first} {second}");
     }
     Ok(())
@@ -79,8 +97,7 @@ fn a_gate_decides_by_its_first_eight_bytes(rt: HostRuntime) -> Result<(), Fail> 
         (b"oNIEOPEN", b"NIEOPEN\0", Err(SlotFault::NoSlot)),
     ];
     for (first, second, want) in cases {
-        let flash = flash((first, 1), (second, 2));
-        let mut plant = SimPlant::new(rt.alloc(), &[], &flash, &[])?;
+        let mut plant = plant_of(rt.alloc(), (first, 1), (second, 2), &[])?;
         match want {
             Ok(content) => assert_eq!(rt; reads(&mut plant, content), Ok(true)),
             Err(fault) => assert_eq!(rt; reads(&mut plant, b""), Err(fault)),
@@ -93,15 +110,15 @@ fn a_gate_decides_by_its_first_eight_bytes(rt: HostRuntime) -> Result<(), Fail> 
 fn a_slot_of_a_content_that_is_too_long_is_not_open(rt: HostRuntime) -> Result<(), Fail> {
     let mut full = flash((OPEN, 1), (OPEN, 2));
     put(&mut full, 4, OPEN, 2, 1012, &[7; 1012]);
-    let mut plant = SimPlant::new(rt.alloc(), &[], &full, &[])?;
+    let mut plant = plant_with(rt.alloc(), &full)?;
     assert_eq!(rt; reads(&mut plant, &[7; 1012]), Ok(true));
     for long in [1013, 1024, 65_548, u32::MAX] {
         put(&mut full, 4, OPEN, 2, long, b"");
-        let mut plant = SimPlant::new(rt.alloc(), &[], &full, &[])?;
+        let mut plant = plant_with(rt.alloc(), &full)?;
         assert_eq!(rt; reads(&mut plant, b"one"), Ok(true), "{long}");
     }
     put(&mut full, 1, OPEN, 1, 1013, b"");
-    let mut plant = SimPlant::new(rt.alloc(), &[], &full, &[])?;
+    let mut plant = plant_with(rt.alloc(), &full)?;
     assert_eq!(rt; reads(&mut plant, b""), Err(SlotFault::NoSlot));
     Ok(())
 }
@@ -110,7 +127,7 @@ fn a_slot_of_a_content_that_is_too_long_is_not_open(rt: HostRuntime) -> Result<(
 fn an_empty_content_is_read(rt: HostRuntime) -> Result<(), Fail> {
     let mut flash = flash((CLOSED, 1), (CLOSED, 2));
     put(&mut flash, 4, OPEN, 2, 0, b"");
-    let mut plant = SimPlant::new(rt.alloc(), &[], &flash, &[])?;
+    let mut plant = plant_with(rt.alloc(), &flash)?;
     assert_eq!(rt; reads(&mut plant, b""), Ok(true));
     Ok(())
 }
@@ -134,9 +151,8 @@ fn the_area_has_room_for_the_pair(rt: HostRuntime) -> Result<(), Fail> {
 
 #[test]
 fn a_call_that_fails_is_a_fault(rt: HostRuntime) -> Result<(), Fail> {
-    let flash = flash((OPEN, 1), (OPEN, 2));
     for call in 1..=3 {
-        let mut plant = SimPlant::new(rt.alloc(), &[], &flash, &[call])?;
+        let mut plant = plant_of(rt.alloc(), (OPEN, 1), (OPEN, 2), &[call])?;
         assert_eq!(rt;
             reads(&mut plant, b"second"),
             Err(SlotFault::Fault),
