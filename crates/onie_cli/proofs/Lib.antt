@@ -1,3 +1,4 @@
+pub mod WholeLines
 pub mod Words
 pub mod Outcomes
 pub mod BoardLemmas
