@@ -13,8 +13,6 @@ In place of the last line it may have the edit itself, in one or more such group
   file: a file of the crate
   old: a line's text that stands there once
   new: what is to stand in its place
-
-docs/planted-bugs/untried/CRATE.txt lists likewise the bugs that are written but were not tried yet.
 """
 
 from __future__ import annotations
@@ -31,7 +29,6 @@ from pathlib import Path
 
 TOP = Path(__file__).resolve().parents[1]
 LISTS = "docs/planted-bugs"
-UNTRIED = "docs/planted-bugs/untried"
 PREFIX = "planted_"
 """How the names of edits begin that stand in must-fail/ while they are tried."""
 
@@ -40,7 +37,6 @@ examples:
   plant_bugs.py table               prints the tables of docs/planted-bugs.md
   plant_bugs.py try board cuts      plants the bugs of two crates that aren't kept as edits
   plant_bugs.py together board      the same in few checks: bugs of different functions at once
-  plant_bugs.py together --untried board
 """
 
 
@@ -164,9 +160,9 @@ def verdicts_of(output: str, bugs: dict[str, Bug]) -> dict[str, str]:
     return {name: verdict for name, verdict in said if name in bugs}
 
 
-def try_bugs(top: Path, name: str, lists: str = LISTS) -> bool:
+def try_bugs(top: Path, name: str) -> bool:
     """Plants a crate's bugs that no kept edit has, one at a time; whether each was refused."""
-    planted = [bug for bug in bugs_of(top / lists / f"{name}.txt") if bug.changes]
+    planted = [bug for bug in bugs_of(top / LISTS / f"{name}.txt") if bug.changes]
     named = {f"{PREFIX}{number:02}": bug for number, bug in enumerate(planted, 1)}
     folder = top / "crates" / name / "must-fail"
     folder.mkdir(exist_ok=True)
@@ -268,14 +264,14 @@ def verdicts_together(crate: Path, batch: list[Bug]) -> dict[Bug, str]:
     return {bug: verdict_in(output, crate.name, functions[bug]) for bug in batch}
 
 
-def plant_together(top: Path, name: str, lists: str = LISTS) -> bool:
+def plant_together(top: Path, name: str) -> bool:
     """Plants a crate's bugs of different functions at once; whether each was refused.
 
     One of which that tells nothing, as where its function calls another with a bug, is then
     planted alone.
     """
     crate = top / "crates" / name
-    planted = [bug for bug in bugs_of(top / lists / f"{name}.txt") if bug.changes]
+    planted = [bug for bug in bugs_of(top / LISTS / f"{name}.txt") if bug.changes]
     refused = []
     for batch in batches_of(crate, planted):
         for bug, verdict in verdicts_together(crate, batch).items():
@@ -298,7 +294,6 @@ def main(words: list[str]) -> int:
         ("together", "plants bugs of different functions at once"),
     ):
         tries = commands.add_parser(command, help=what)
-        tries.add_argument("--untried", action="store_true", help="those that were not tried yet")
         tries.add_argument("crate", nargs="+")
     options = parser.parse_args(words)
     try:
@@ -306,8 +301,7 @@ def main(words: list[str]) -> int:
             print(table_of(TOP), end="")
             return 0
         plant = try_bugs if options.command == "try" else plant_together
-        lists = UNTRIED if options.untried else LISTS
-        return 0 if all([plant(TOP, name, lists) for name in options.crate]) else 1
+        return 0 if all([plant(TOP, name) for name in options.crate]) else 1
     except ListError as fault:
         print(f"plant_bugs: {fault}", file=sys.stderr)
         return 2

@@ -10,7 +10,7 @@ from pathlib import Path
 from unittest.mock import patch
 
 import plant_bugs
-from plant_bugs import LISTS, TOP, UNTRIED, Bug, Change, ListError, bug_of, bugs_of
+from plant_bugs import LISTS, TOP, Bug, Change, ListError, bug_of, bugs_of, edit_text
 
 KEPT = "bug: reads one byte too few\ncall: Reader::read\nclause: `moved`\nedit: one_too_few"
 PLANTED = """\
@@ -54,19 +54,22 @@ class Lists(unittest.TestCase):
 
     def test_changes(self) -> None:
         """What a bug changes stands once in the code."""
-        for path in (*(TOP / LISTS).glob("*.txt"), *(TOP / UNTRIED).glob("*.txt")):
+        for path in (TOP / LISTS).glob("*.txt"):
             for bug in bugs_of(path):
                 with self.subTest(path.stem, bug=bug.text):
                     self.assertEqual(wrong_changes(TOP / "crates" / path.stem, bug), [])
 
-    def test_untried(self) -> None:
-        """What was not tried is no kept edit, and in no other list."""
-        for path in (TOP / UNTRIED).glob("*.txt"):
-            with self.subTest(path.stem):
-                untried = bugs_of(path)
-                self.assertEqual([bug.text for bug in untried if bug.edit], [])
-                tried = {bug.changes for bug in bugs_of(TOP / LISTS / path.name)}
-                self.assertEqual([bug.text for bug in untried if bug.changes in tried], [])
+    def test_once(self) -> None:
+        """No bug is listed twice, and none that is listed with its changes is kept as an edit."""
+        for name in plant_bugs.crates(TOP):
+            with self.subTest(name):
+                edits = (TOP / "crates" / name / "must-fail").glob("*.edit")
+                kept = {path.read_text(encoding="utf-8") for path in edits}
+                bugs = bugs_of(TOP / LISTS / f"{name}.txt")
+                texts = [edit_text(bug) for bug in bugs if bug.changes]
+                self.assertEqual([text for text in texts if text in kept], [])
+                self.assertEqual(len(texts), len(set(texts)))
+                self.assertEqual(len(bugs), len({(bug.text, bug.call) for bug in bugs}))
 
     def test_crates(self) -> None:
         """Each crate that has wrong bodies has a list, and no other folder has one."""
