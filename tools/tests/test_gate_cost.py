@@ -12,8 +12,8 @@ from unittest.mock import patch
 import gate_cost
 from gate_cost import Costs, Process
 
-BUILD = "/opt/rattle build --crate-name board src/lib.rt"
-"""The command line of the proof of a crate, for a prover in any folder."""
+BUILD = "bin/rattle build --crate-name board src/lib.rt"
+"""The command line of the proof of a crate."""
 
 
 class Steps(unittest.TestCase):
