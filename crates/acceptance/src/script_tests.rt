@@ -38,22 +38,29 @@ const NO_FAILS: Fails = Fails {
     console: 0,
 };
 
-/// What a call answers, what the console and the trace took, and how many bytes the script's source gives to a next read.
+/// What a call answers, what the console took, whether the trace took nothing, and how many bytes the script's source
+/// gives to a next read.
 #[derive(Drop)]
 struct Discovery {
     status: Status,
     console: MemSink,
-    trace: MemSink,
+    untraced: bool,
     rest: Option<usize>,
 }
 
-/// What `discover` comes to on a board with this EEPROM and this script, whose volume `usb0` has one installer, and whose
-/// volume `net` has the file `img` where that is served.
+/// Media with the volume `usb0`, which has one installer, whose calls of these numbers fail.
+fn usb0(alloc: Global, fails: &[u64]) -> Result<MemMedia, Fail> {
+    let mut media = MemMedia::new(alloc, fails)?;
+    media.add(b"usb0", b"onie-installer", b"12345")?;
+    Ok(media)
+}
+
+/// What `discover` comes to on a board with this EEPROM, this script and these media.
 fn discover(
     alloc: Global,
     eeprom: &[u8],
     script: &[u8],
-    served: bool,
+    media: &mut MemMedia,
     fails: Fails,
 ) -> Result<Discovery, Fail>
     requires { length eeprom.now ≤ 2048 }
@@ -63,11 +70,6 @@ fn discover(
     // The plant is not called: its first call fails.
     let mut plant = SimPlant::new(alloc, b"", b"", &[1])?;
     let mut eeprom = MemEeprom::new(alloc, eeprom, &[])?;
-    let mut media = MemMedia::new(alloc, &[fails.media])?;
-    media.add(b"usb0", b"onie-installer", b"12345")?;
-    if served {
-        media.add(b"net", b"img", b"x")?;
-    }
     let mut script = MemSource::new(alloc, script, &[fails.script])?;
     let mut console = MemSink::new(alloc, &[fails.console])?;
     let mut trace = MemSink::new(alloc, &[1])?;
@@ -76,17 +78,16 @@ fn discover(
         &words,
         &mut plant,
         &mut eeprom,
-        &mut media,
+        media,
         &mut script,
         &mut console,
         &mut trace,
     );
-    let rest = script.read(&mut [0; 8]).ok();
     Ok(Discovery {
         status,
         console,
-        trace,
-        rest,
+        untraced: trace.as_slice().is_empty(),
+        rest: script.read(&mut [0; 8]).ok(),
     })
 }
 
@@ -203,7 +204,8 @@ fn a_wrong_script_is_refused(rt: HostRuntime) -> Result<(), Fail> {
         ),
     ];
     for (script, line, kind, text) in rows {
-        let discovery = discover(rt.alloc(), BOARD, script.as_bytes(), false, NO_FAILS)?;
+        let mut media = usb0(rt.alloc(), &[])?;
+        let discovery = discover(rt.alloc(), BOARD, script.as_bytes(), &mut media, NO_FAILS)?;
         assert_eq!(rt;
             discovery.status,
             Status::BadScript { line, kind },
@@ -211,7 +213,7 @@ fn a_wrong_script_is_refused(rt: HostRuntime) -> Result<(), Fail> {
         );
         assert_eq!(rt; discovery.status.number(), 5);
         assert_eq!(rt; discovery.console.as_slice(), text.as_bytes());
-        assert!(rt; discovery.trace.as_slice().is_empty());
+        assert!(rt; discovery.untraced);
     }
     Ok(())
 }
@@ -221,10 +223,12 @@ fn a_wrong_script_is_refused(rt: HostRuntime) -> Result<(), Fail> {
 #[test]
 fn a_script_is_played(rt: HostRuntime) -> Result<(), Fail> {
     for script in ["", SERVES, "flow 1 dns\nat 5 end\n"] {
-        let discovery = discover(rt.alloc(), BOARD, script.as_bytes(), true, NO_FAILS)?;
+        let mut media = usb0(rt.alloc(), &[])?;
+        media.add(b"net", b"img", b"x")?;
+        let discovery = discover(rt.alloc(), BOARD, script.as_bytes(), &mut media, NO_FAILS)?;
         assert_eq!(rt; discovery.status, Status::Done(Outcome::Printed));
         assert_eq!(rt; discovery.console.as_slice(), LISTED.as_bytes());
-        assert!(rt; discovery.trace.as_slice().is_empty());
+        assert!(rt; discovery.untraced);
         assert_eq!(rt; discovery.rest, Some(0));
     }
     Ok(())
@@ -235,7 +239,8 @@ fn a_script_is_played(rt: HostRuntime) -> Result<(), Fail> {
 fn a_long_script_is_refused(rt: HostRuntime) -> Result<(), Fail> {
     let mut text = Vec::new(rt.alloc());
     text.resize(16_777_217, b'\n')?;
-    let discovery = discover(rt.alloc(), BOARD, text.as_slice(), false, NO_FAILS)?;
+    let mut media = usb0(rt.alloc(), &[])?;
+    let discovery = discover(rt.alloc(), BOARD, text.as_slice(), &mut media, NO_FAILS)?;
     let kind = ScriptKind::TooLong;
     assert_eq!(rt; discovery.status, Status::BadScript { line: 0, kind });
     assert_eq!(rt;
@@ -330,7 +335,8 @@ fn a_fault_ends_the_reading(rt: HostRuntime) -> Result<(), Fail> {
             "",
         ),
     ] {
-        let discovery = discover(rt.alloc(), BOARD, script.as_bytes(), false, fails)?;
+        let mut media = usb0(rt.alloc(), &[fails.media])?;
+        let discovery = discover(rt.alloc(), BOARD, script.as_bytes(), &mut media, fails)?;
         assert_eq!(rt; discovery.status, want);
         assert_eq!(rt; discovery.status.number(), number);
         assert_eq!(rt; discovery.console.as_slice(), text.as_bytes());
@@ -347,7 +353,8 @@ fn the_eeprom_comes_before_the_script(rt: HostRuntime) -> Result<(), Fail> {
         script: 1,
         console: 0,
     };
-    let discovery = discover(rt.alloc(), b"", b"at 5 end\n", false, fails)?;
+    let mut media = usb0(rt.alloc(), &[fails.media])?;
+    let discovery = discover(rt.alloc(), b"", b"at 5 end\n", &mut media, fails)?;
     let kind = EepromKind::Tlv(TlvKind::NotTlv);
     assert_eq!(rt; discovery.status, Status::BadEeprom(kind));
     assert_eq!(rt; discovery.status.number(), 4);
