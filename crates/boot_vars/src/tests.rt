@@ -239,11 +239,16 @@ fn a_system_is_named(rt: HostRuntime) -> Result<(), Fail> {
     Ok(())
 }
 
-/// Why no variables are read from this flash, or nothing where some are.
-fn fault_of(alloc: Global, flash: &[u8]) -> Result<Option<VarsFault>, Fail>
-    requires { length flash.now ≡ 17408 }
-{
-    let mut plant = plant_with(alloc, flash, &[])?;
+/// Why no variables are read from this flash beside a disk of these bytes, or nothing where some are.
+fn fault_beside(alloc: Global, disk: &[u8], flash: &[u8]) -> Result<Option<VarsFault>, Fail> {
+    if disk.len() > 17408
+        || disk.len() % 512 != 0
+        || flash.len() > 17408
+        || flash.len() % 512 != 0
+    {
+        return Err(Fail::new("a size"));
+    }
+    let mut plant = SimPlant::new(alloc, disk, flash, &[])?;
     match BootVars::open(&mut plant) {
         Ok(_) => Ok(None),
         Err(fault) => Ok(Some(fault)),
@@ -255,20 +260,20 @@ fn the_current_slot_alone_is_read(rt: HostRuntime) -> Result<(), Fail> {
     let mut flash = flash(rt.alloc(), b"bad\0")?;
     put(&mut flash, 0, 8, b"good=1\0");
     let bad = VarsFault::BadLine { at: 0 };
-    assert_eq!(rt; fault_of(rt.alloc(), &flash)?, Some(bad));
+    assert_eq!(rt; fault_beside(rt.alloc(), &[], &flash)?, Some(bad));
     put(&mut flash, 0, 9, b"good=1\0");
-    assert_eq!(rt; fault_of(rt.alloc(), &flash)?, None);
-    assert_eq!(rt; fault_of(rt.alloc(), &[0; 17408])?, Some(VarsFault::NoSlot));
+    assert_eq!(rt; fault_beside(rt.alloc(), &[], &flash)?, None);
     Ok(())
 }
 
-/// The disk holds no variables, nor does a flash of 33 sectors.
+/// A disk that holds what a flash would counts for nothing: beside a flash of 33 sectors, and one of zeros.
 #[test]
 fn the_flash_alone_has_variables(rt: HostRuntime) -> Result<(), Fail> {
     let flash = flash(rt.alloc(), b"a=1\0")?;
+    let none = Some(VarsFault::NoSlot);
     let (all_but_one, _) = flash.split_at(16896);
-    let mut plant = SimPlant::new(rt.alloc(), &flash, all_but_one, &[])?;
-    assert!(rt; matches!(&BootVars::open(&mut plant), Err(VarsFault::NoSlot)));
+    assert_eq!(rt; fault_beside(rt.alloc(), &flash, all_but_one)?, none);
+    assert_eq!(rt; fault_beside(rt.alloc(), &flash, &[0; 17408])?, none);
     Ok(())
 }
 
