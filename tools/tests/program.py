@@ -7,7 +7,8 @@ import os
 import unittest
 from pathlib import Path
 
-TOP = Path(__file__).resolve().parents[2]
+from gate.repository import TOP
+
 PROGRAM = Path(os.environ.get("ONIE") or TOP / "crates/onie/out/onie").absolute()
 SECONDS = 20
 """How long a run may take."""

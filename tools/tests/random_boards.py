@@ -5,8 +5,8 @@ import string
 import uuid
 from dataclasses import replace
 
-from flash import CONTENT_LIMIT, GATE, SECTOR_SIZE, SLOT_SIZE
-from gpt import (
+from formats.flash import CONTENT_LIMIT, GATE, SECTOR_SIZE, SLOT_SIZE
+from formats.gpt import (
     COPY_SIZE,
     ENTRIES_SIZE,
     ENTRY_COUNT,
@@ -23,7 +23,7 @@ from gpt import (
     parted,
     sealed,
 )
-from onie_image import SIGNATURE
+from formats.onie_image import SIGNATURE
 
 from tests.test_gpt import random_guid, random_name
 

@@ -7,7 +7,7 @@ import sys
 import uuid
 from pathlib import Path
 
-from gpt import ONIE_BOOT, SECTOR_SIZE, Entry
+from formats.gpt import ONIE_BOOT, SECTOR_SIZE, Entry
 
 SECTORS = 40 * 2048
 """The sectors of the disk that sgdisk makes."""

@@ -8,10 +8,10 @@ import unittest
 import uuid
 from pathlib import Path
 
-import make_board
-from flash import Slot, flash_image
-from gpt import LINUX_DATA, ONIE_BOOT, SECTOR_SIZE, Entry, Table, copies
-from status import status_text
+from boards import make_board
+from boards.status import status_text
+from formats.flash import Slot, flash_image
+from formats.gpt import LINUX_DATA, ONIE_BOOT, SECTOR_SIZE, Entry, Table, copies
 
 from tests.program import PROGRAM, SECONDS
 

@@ -10,8 +10,8 @@ import unittest
 from collections.abc import Callable
 from pathlib import Path
 
-import tlvinfo
-from tlvinfo import CODES, EEPROM_SIZE, Field, Kind
+from formats import tlvinfo
+from formats.tlvinfo import CODES, EEPROM_SIZE, Field, Kind
 
 from tests.program import PROGRAM, SECONDS, needs_program
 

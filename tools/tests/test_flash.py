@@ -5,9 +5,9 @@ import string
 import unittest
 import uuid
 
-import flash
-from decoding import DecodeError
-from flash import (
+from formats import flash
+from formats.decoding import DecodeError
+from formats.flash import (
     CONTENT_LIMIT,
     FLASH_SECTORS,
     SLOT_SIZE,

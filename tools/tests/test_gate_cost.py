@@ -9,8 +9,8 @@ import unittest
 from pathlib import Path
 from unittest.mock import patch
 
-import gate_cost
-from gate_cost import Costs, Process
+from gate import gate_cost
+from gate.gate_cost import Costs, Process
 
 BUILD = "bin/rattle build --crate-name board src/lib.rt"
 """The command line of the proof of a crate."""
@@ -101,8 +101,9 @@ class Tables(unittest.TestCase):
         self.assertEqual(
             list(gate_cost.table_of(self.top, costs))[2:],
             [
-                "| `low` |  |  |  | 250 | 0 | 0 | 0 | 0.0 |",
-                "| `board` | 2.0 | 3.0 |  | 1,000 | 300 | 700 | 2 | 2.5 |",
+                "| `low` | 0.0 | 0.0 | 0.0 | 250 | 0 | 0 | 0 | 0.0 |",
+                "| `board` | 2.0 | 3.0 | 0.0 | 1,000 | 300 | 700 | 2 | 2.5 |",
+                "| all | 2.0 | 3.0 | 0.0 | 1,250 | 300 | 700 | 2 | 2.2 |",
             ],
         )
 

@@ -9,7 +9,7 @@ import zlib
 from dataclasses import replace
 from pathlib import Path
 
-from gpt import (
+from formats.gpt import (
     COPY_SIZE,
     ENTRIES_SIZE,
     ENTRY_COUNT,

@@ -10,11 +10,9 @@ import unittest
 import uuid
 from pathlib import Path
 
-import flash
-import gpt
-import make_board
-import status
-import tlvinfo
+from boards import make_board, status
+from formats import flash, gpt, tlvinfo
+from gate.repository import TOP
 
 SMALLEST = (
     "546c76496e666f000100242814"
@@ -522,8 +520,7 @@ class Command(BoardTest):
     """The script as a command of its own."""
 
     def run_script(self, *words: str) -> subprocess.CompletedProcess[str]:
-        script = str(Path(make_board.__file__))
-        command = [sys.executable, script, *words]
+        command = [sys.executable, str(TOP / "tools"), "make_board", *words]
         return subprocess.run(command, capture_output=True, text=True, timeout=20, check=False)
 
     def test_makes_a_board(self) -> None:
@@ -539,7 +536,7 @@ class Command(BoardTest):
     def test_help_has_examples(self) -> None:
         done = self.run_script("--help")
         self.assertEqual(done.returncode, 0)
-        self.assertIn("make_board.py board --defaults --field 21=Switch", done.stdout)
+        self.assertIn("make_board board --defaults --field 21=Switch", done.stdout)
 
 
 if __name__ == "__main__":

@@ -277,6 +277,29 @@ class Trace(NetworkTest):
                 self.assertEqual(self.run_program(["discover"])[0], 5)
                 self.assertEqual(self.trace.read_bytes(), b"")
 
+    def test_a_link_is_replaced(self) -> None:
+        """What a link leads to stays, and the trace is a file of its own."""
+        self.make()
+        identity = self.eeprom.read_bytes()
+        self.trace.symlink_to("eeprom.bin")
+        self.check(0, TWO_VOLUMES)
+        self.assertEqual(self.eeprom.read_bytes(), identity)
+        self.assertFalse(self.trace.is_symlink())
+        self.assertEqual(self.trace.read_bytes(), b"")
+
+    def test_a_fifo_is_replaced(self) -> None:
+        self.make()
+        os.mkfifo(self.trace)
+        self.check(0, TWO_VOLUMES)
+        self.assertTrue(self.trace.is_file())
+
+    def test_a_folder_stays(self) -> None:
+        """Nothing is sent, so that it can't be replaced is no fault yet."""
+        self.make()
+        self.trace.mkdir()
+        self.check(0, TWO_VOLUMES)
+        self.assertTrue(self.trace.is_dir())
+
     def test_only_discover_makes_it(self) -> None:
         """No other command makes it or empties it."""
         self.make()

@@ -2,7 +2,7 @@
 
 import unittest
 
-from onie_image import CONTENT_LIMIT, EncodeError, encode_image, image_length
+from formats.onie_image import CONTENT_LIMIT, EncodeError, encode_image, image_length
 
 
 class Encoding(unittest.TestCase):

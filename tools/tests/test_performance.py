@@ -9,8 +9,8 @@ import unittest
 from pathlib import Path
 from unittest.mock import Mock, patch
 
-import performance
-from performance import BODY_SIZES, MIB, SCRIPT_SIZES, SCRIPTS, Case, Cost
+from gate import performance
+from gate.performance import BODY_SIZES, MIB, SCRIPTS, SCRIPT_SIZES, Case, Cost
 
 LONGEST = 16_777_216
 """The most bytes of a script."""
@@ -46,6 +46,22 @@ class Inputs(PerformanceTest):
         performance.write_repeated(path, b"flow * x\n", b"at 5 end\n", 200_000)
         text = path.read_bytes()
         self.assertEqual(text, b"flow * x\n" + b"at 5 end\n" * (len(text) // 9 - 1))
+
+    def test_volumes_and_lines(self) -> None:
+        """As many volumes, and as many lines that serve one file, as are asked for."""
+        volumes = performance.volumes_case(self.folder, Path("/onie"), 3)
+        self.assertEqual(volumes.size, 3)
+        self.assertEqual(
+            sorted(os.listdir(volumes.folder / "media")), ["net", "v00000", "v00001", "v00002"]
+        )
+        served = performance.served_case(self.folder, Path("/onie"), 2)
+        self.assertEqual(
+            (served.folder / "net.txt").read_text(),
+            "tftp * 10.0.0.1:69 img img 1\ntftp * 10.0.0.2:69 img img 1\n",
+        )
+        self.assertEqual(
+            (served.folder / "media/net/img").stat().st_size, performance.SERVED_FILE
+        )
 
     def test_boards(self) -> None:
         """Each is a board of its own, with its script and its body."""
@@ -110,6 +126,15 @@ class Tables(PerformanceTest):
         status, text, said = self.run_main("--runs=1", "--bodies", sys.executable, "-c", program)
         self.assertEqual((status, said), (0, ""))
         self.assertEqual(len(text.splitlines()), 2 + len(BODY_SIZES))
+
+    def test_refused_words(self) -> None:
+        for words, why in (
+            (["--bodies"], "--bodies wants a command"),
+            (["--runs=0"], "--runs wants at least 1"),
+            (["--runs=x"], "argument --runs: invalid int value: 'x'"),
+        ):
+            with self.subTest(words):
+                self.assertEqual(self.run_main(*words), (2, "", f"performance: {why}\n"))
 
     def test_program_that_fails(self) -> None:
         command = [sys.executable, "-c", "raise SystemExit(1)"]

@@ -9,8 +9,9 @@ import unittest
 from pathlib import Path
 from unittest.mock import patch
 
-import plant_bugs
-from plant_bugs import LISTS, TOP, Bug, Change, ListError, bug_of, bugs_of, edit_text
+from gate import plant_bugs
+from gate.plant_bugs import LISTS, Bug, Change, ListError, bug_of, bugs_of, edit_text
+from gate.repository import TOP
 
 KEPT = "bug: reads one byte too few\ncall: Reader::read\nclause: `moved`\nedit: one_too_few"
 PLANTED = """\
@@ -45,7 +46,7 @@ class Lists(unittest.TestCase):
 
     def test_kept_edits(self) -> None:
         """Each kept edit is in its crate's list once."""
-        for name in plant_bugs.crates(TOP):
+        for name in plant_bugs.listed(TOP):
             with self.subTest(name):
                 bugs = bugs_of(TOP / LISTS / f"{name}.txt")
                 kept = sorted(bug.edit for bug in bugs if bug.edit)
@@ -61,7 +62,7 @@ class Lists(unittest.TestCase):
 
     def test_once(self) -> None:
         """No bug is listed twice, and none that is listed with its changes is kept as an edit."""
-        for name in plant_bugs.crates(TOP):
+        for name in plant_bugs.listed(TOP):
             with self.subTest(name):
                 edits = (TOP / "crates" / name / "must-fail").glob("*.edit")
                 kept = {path.read_text(encoding="utf-8") for path in edits}
@@ -72,13 +73,11 @@ class Lists(unittest.TestCase):
                 self.assertEqual(len(bugs), len({(bug.text, bug.call) for bug in bugs}))
 
     def test_crates(self) -> None:
-        """Each crate that has wrong bodies has a list, and no other folder has one."""
+        """Each crate that keeps wrong bodies has a list, and each list is a crate's."""
         edits = {path.parts[-3] for path in TOP.glob("crates/*/must-fail/*.edit")}
-        self.assertEqual(edits, {path.stem for path in (TOP / LISTS).glob("*.txt")})
-
-    def test_page(self) -> None:
-        page = (TOP / "docs/planted-bugs.md").read_text(encoding="utf-8")
-        self.assertTrue(page.endswith(plant_bugs.table_of(TOP)))
+        lists = {path.stem for path in (TOP / LISTS).glob("*.txt")}
+        self.assertEqual(edits - lists, set())
+        self.assertEqual(lists - {path.name for path in (TOP / "crates").iterdir()}, set())
 
 
 class Parsing(unittest.TestCase):
@@ -205,6 +204,22 @@ class Planting(unittest.TestCase):
         self.assertEqual(seen[2:], [{"reader.rt": SOURCE, "faults.rt": alone}])
         self.assertEqual((self.top / "crates/reader/src/reader.rt").read_text(), SOURCE)
 
+    def test_together_in_a_definition(self) -> None:
+        """A changed definition is put back, also where the check breaks off."""
+        path = self.top / "crates/reader/specs/Sizes.antt"
+        path.parent.mkdir()
+        path.write_text("size = 4\n")
+        bug = "bug: a\ncall: b\nclause: c\nfile: specs/Sizes.antt\nold: 4\nnew: 5\n"
+        (self.top / LISTS / "reader.txt").write_text(bug)
+
+        def run(command: list[str], **_: object) -> subprocess.CompletedProcess[str]:
+            self.assertEqual(path.read_text(), "size = 5\n")
+            raise OSError("no rt")
+
+        with patch.object(subprocess, "run", run), self.assertRaisesRegex(OSError, "no rt"):
+            plant_bugs.plant_together(self.top, "reader")
+        self.assertEqual(path.read_text(), "size = 4\n")
+
     def test_lines_of_a_check(self) -> None:
         """A function that calls an unproved one, and has no gap of its own, tells nothing."""
         for said, verdict in (
@@ -222,7 +237,7 @@ class Planting(unittest.TestCase):
 
     def test_table(self) -> None:
         self.assertEqual(
-            plant_bugs.table_of(self.top),
+            plant_bugs.table_of(self.top, ["reader"]),
             "## `reader`: 2\n\n"
             "| Bug | Call | Refused by | Kept as |\n|---|---|---|---|\n"
             "| reads one byte too few | `Reader::read` | `moved` | `one_too_few` |\n"

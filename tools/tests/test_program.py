@@ -8,8 +8,8 @@ import unittest
 from pathlib import Path
 from typing import BinaryIO
 
-import make_board
-import tlvinfo
+from boards import make_board
+from formats import tlvinfo
 
 from tests.program import PROGRAM, SECONDS, needs_program
 

@@ -4,7 +4,7 @@ import random
 import shutil
 import subprocess
 
-from flash import (
+from formats.flash import (
     CONTENT_LIMIT,
     GREATEST_NUMBER,
     NAME,

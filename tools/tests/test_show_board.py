@@ -13,12 +13,11 @@ import unittest
 import uuid
 from pathlib import Path
 
-import disk_map
-import make_board
-import show_board
-from flash import Slot, flash_image
-from gpt import LINUX_DATA, ONIE_BOOT, Entry, Table, copies
-from terminal import Paint, counted, plain, size_text
+from boards import disk_map, make_board, show_board
+from boards.terminal import Paint, counted, plain, size_text
+from formats.flash import Slot, flash_image
+from formats.gpt import LINUX_DATA, ONIE_BOOT, Entry, Table, copies
+from gate.repository import TOP
 
 from tests.random_boards import random_disk, random_flash
 from tests.status_board import BOARD, NOS, NOS_GUID, ONIE, ONIE_GUID, SECTORS
@@ -430,11 +429,10 @@ class Command(BoardTest):
     """The script as a command of its own."""
 
     def run_script(self, *words: str, stdout: int = subprocess.PIPE) -> tuple[int, str, str]:
-        script = str(Path(show_board.__file__))
         variables = {**os.environ, "LC_ALL": "C", "PYTHONIOENCODING": "ascii"}
         variables.pop("NO_COLOR", None)
         done = subprocess.run(
-            [sys.executable, script, *words],
+            [sys.executable, str(TOP / "tools"), "show_board", *words],
             stdin=subprocess.DEVNULL,
             stdout=stdout,
             stderr=subprocess.PIPE,
@@ -481,7 +479,7 @@ class Command(BoardTest):
     def test_help_has_examples(self) -> None:
         status, text, _ = self.run_script("--help")
         self.assertEqual(status, 0)
-        self.assertIn("show_board.py board | less", text)
+        self.assertIn("show_board board | less", text)
 
 
 if __name__ == "__main__":

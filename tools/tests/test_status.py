@@ -9,8 +9,9 @@ import unittest
 import uuid
 from dataclasses import replace
 
-from flash import Slot, flash_image
-from gpt import (
+from boards.status import entry_text
+from formats.flash import Slot, flash_image
+from formats.gpt import (
     LINUX_DATA,
     SECTOR_SIZE,
     UNUSED,
@@ -22,8 +23,7 @@ from gpt import (
     parted,
     sealed,
 )
-from onie_image import encode_image
-from status import entry_text
+from formats.onie_image import encode_image
 
 from tests import sgdisk
 from tests.program import PROGRAM, SECONDS, needs_program
@@ -52,6 +52,15 @@ class Program(StatusTest):
         """Without a disk and a flash the plant's first call fails."""
         self.board.mkdir()
         self.assertEqual(self.said()[0], 6)
+
+    def test_files_of_no_length(self) -> None:
+        """A file whose length the system doesn't tell is a fault, and no small disk."""
+        for name in ("disk.img", "flash.img"):
+            with self.subTest(name):
+                self.make()
+                (self.board / name).unlink()
+                (self.board / name).symlink_to(name)
+                self.assertEqual(self.said()[0], 6)
 
     def test_more_words(self) -> None:
         self.make()

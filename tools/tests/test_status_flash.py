@@ -2,7 +2,7 @@
 
 import unittest
 
-from flash import Slot, encode_slot
+from formats.flash import Slot, encode_slot
 
 from tests.status_board import NOS_GUID, ONIE_GUID, StatusTest
 

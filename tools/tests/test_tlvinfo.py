@@ -4,8 +4,8 @@ import random
 import unittest
 import zlib
 
-from decoding import DecodeError
-from tlvinfo import (
+from formats.decoding import DecodeError
+from formats.tlvinfo import (
     CODES,
     EEPROM_SIZE,
     EncodeError,

@@ -1,3 +1,4 @@
 pub mod Codes
+pub mod DhcpTable
 pub mod Row
 pub mod TlvTable

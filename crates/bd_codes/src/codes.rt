@@ -6,8 +6,10 @@ ghost use Rattle.bd_codes.specs.Codes.{IsOneRow, Rises, row_at};
 use crate::row::Row;
 use std::marker::Model;
 
+mod dhcp;
 mod tlv;
 
+pub use dhcp::dhcp_codes;
 pub use tlv::tlv_codes;
 
 /// A table of `N` codes, whose rows stand in the order of their codes.

@@ -6,3 +6,7 @@ mod Adding
 mod Storing
 pub mod Windows
 pub mod Lines
+pub mod Joins
+pub mod Touch
+mod FileFronts
+mod SourceFronts

@@ -8,3 +8,5 @@ pub mod Plant
 pub mod Source
 pub mod Rows
 pub mod Net
+pub mod Runs
+pub mod Touching

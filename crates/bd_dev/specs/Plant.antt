@@ -1,8 +1,7 @@
 -- What a plant's calls do to what it reads, and what a crash at any moment may leave.
-use Rattle.std.specs.Prelude.{◌≡◌, ◌⊎◌, ℕ, ◌+◌, ◌/◌, ◌%◌, ◌^◌, ◌<◌, ◌≤◌, Result, IsOk}
+use Rattle.std.specs.Prelude.{◌≡◌, ◌⊎◌, ℕ, ◌+◌, ◌-◌, ◌/◌, ◌%◌, ◌^◌, ◌<◌, ◌≤◌, min, Result, IsOk}
 use Rattle.bd_dev.specs.declared.plant.Area.{Area}
 use Rattle.bd_dev.specs.Content.{Image, SameSector, Outside}
-use Rattle.bd_dev.specs.Faults.{Rose}
 
 -- What a plant is to those who use it.
 pub record View : Type 1 where
@@ -13,7 +12,7 @@ pub record View : Type 1 where
   pub moment : ℕ  -- a clock
   pub left_since : ℕ → Image → Type 0  -- what a crash at some moment since then might have left
   pub read_since : ℕ → Image → Type 0  -- what it read between two of its calls since then
-  pub writes : ℕ  -- the count of writes
+  pub writes : Area → ℕ  -- how many sectors its writes were given, by area
   pub faults : ℕ  -- the count of faults
 
 -- A crash now may leave this: each sector that is synced as it reads, and any bytes elsewhere.
@@ -37,6 +36,7 @@ pub record Passes (old new : View) : Type 0 where
 pub record ReadsBetween {T E : Type 0} (result : Result T E) (old new : View) : Type 0 where
   pub nothing_else : (t : ℕ) (c : Image) → t ≤ old.moment → new.read_since t c → old.read_since t c ⊎ (IsOk result × (c ≡ new.reads))
   pub keeps : (t : ℕ) (c : Image) → t ≤ old.moment → old.read_since t c → new.read_since t c
+  pub added : IsOk result → (t : ℕ) → t ≤ old.moment → new.read_since t new.reads
 
 -- what is read at this sector, and whether it is unsynced, is as before
 pub record Unchanged (old new : View) (a : Area) (s : ℕ) : Type 0 where
@@ -55,10 +55,19 @@ pub record OnlyReads (old new : View) : Type 0 where
   pub unsynced : KeepsUnsynced old new
   pub writes : new.writes ≡ old.writes
 
+-- an area's count of sectors that were written, n higher; it is kept in 64 bits and stays at its greatest value
+abbrev pub written_more : ℕ → ℕ → ℕ
+written_more count n = min (count + n) (2 ^ 64 - 1)
+
+-- this area's count is n higher, and the other area's is as it was
+pub record CountsWrites (area : Area) (n : ℕ) (old new : View) : Type 0 where
+  pub here : new.writes area ≡ written_more (old.writes area) n
+  pub elsewhere : (a : Area) → (a ≡ area → ⊥) → new.writes a ≡ old.writes a
+
 -- a write of n sectors, whatever it answers
 pub record WritesTo (area : Area) (lba n : ℕ) (old new : View) : Type 0 where
   pub outside : (a : Area) (s : ℕ) → Outside area lba n a s → Unchanged old new a s
-  pub counted : Rose old.writes new.writes
+  pub counted : CountsWrites area n old new
 
 -- these n sectors are unsynced
 abbrev pub AreUnsynced : View → Area → ℕ → ℕ → Type 0

@@ -1,5 +1,5 @@
 -- What is left of a source, where it tells.
-use Rattle.std.specs.Prelude.{◌≡◌, ℕ, ◌<◌, ◌≤◌, List, length, take, drop, Option, option_map}
+use Rattle.std.specs.Prelude.{◌≡◌, ℕ, ◌<◌, ◌≤◌, List, [], length, take, drop, Option, option_map}
 use Rattle.std.specs.Option.{ForSome}
 use Rattle.bd_dev.specs.Calls.{Calls}
 
@@ -14,6 +14,10 @@ pub record Gives (old new : Option (List ℕ)) (n : ℕ) (out : List ℕ) : Type
   pub fits : n ≤ length out
   pub told : ForSome old (λ left. IsFront left n out)
   pub gone : new ≡ option_map (λ left. drop n left) old
+
+-- nothing is left
+abbrev pub emptied : Option (List ℕ) → Option (List ℕ)
+emptied content = option_map (λ _. []) content
 
 -- a source in memory
 pub record SourceInMemory : Type 0 where

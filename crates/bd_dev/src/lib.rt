@@ -7,6 +7,11 @@
 //! and the count never falls. A device that tells nothing, as a real file, still keeps the bounds.
 //! A plant's clauses speak of what a power cut at any moment may leave, too. The devices in memory
 //! tell all that they hold, and fail at the calls whose numbers they were given.
+//!
+//! A plant's call speaks of that call; the relations of `Runs` and `Touching` speak of many: what a crash at some moment
+//! between may have left, and what the plant read between two of the calls. A run that only reads is a
+//! [`read_sectors`]; one that touches some sectors alone is a [`write_sectors`], a [`sync_area`] or a
+//! [`write_through`]; runs join.
 #![tactic(auto)]
 
 mod bytes;
@@ -21,21 +26,25 @@ mod mem_source;
 mod mem_volumes;
 mod net;
 mod plant;
+mod reading;
 mod sink;
 mod source;
 #[cfg(test)]
 mod tests;
+mod writing;
 
 pub use bytes::{Bytes, Memory, Names};
 pub use calls::CallCounter;
 pub use eeprom::Eeprom;
 pub use faults::{DevFault, Failed};
-pub use media::Media;
+pub use media::{Media, read_file};
 pub use mem_eeprom::MemEeprom;
 pub use mem_media::MemMedia;
 pub use mem_sink::MemSink;
 pub use mem_source::MemSource;
 pub use net::{Arrival, Net, Next};
 pub use plant::{Area, Plant};
+pub use reading::read_sectors;
 pub use sink::{Sink, write_all};
-pub use source::Source;
+pub use source::{Source, read_source};
+pub use writing::{sync_area, write_sectors, write_through};

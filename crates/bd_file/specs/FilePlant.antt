@@ -26,7 +26,7 @@ view_of sizes = record {
   moment = 0;
   left_since = λ t c. Unit {0};
   read_since = λ t c. Unit {0};
-  writes = 0;
+  writes = λ a. 0;
   faults = sizes.faults;
 }
 

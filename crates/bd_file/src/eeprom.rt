@@ -2,10 +2,11 @@
 
 ghost use Rattle.std.specs.Prelude.{◌≡◌, ◌≤◌, None, IfOk, length};
 
+use crate::calls::{read_some, sync};
 use crate::faults::FaultCount;
 use crate::paths::regular_length;
 use bd_dev::{Eeprom, Failed};
-use std::fs::{self, OpenFile, OpenOptions};
+use std::fs::{self, OpenOptions};
 use std::io::{self, Read, Write};
 use std::marker::Model;
 use std::rt::Files;
@@ -74,7 +75,7 @@ fn fill<F: Read>(file: &mut F, out: &mut [u8]) -> io::Result<usize>
 {
     let mut done = 0;
     while done < out.len() {
-        let count = file.read(&mut out[done..])?;
+        let count = read_some(file, &mut out[done..])?;
         if count == 0 {
             return Ok(done);
         }
@@ -88,5 +89,5 @@ fn store_file<R: Files>(rt: &R, path: &str, bytes: &[u8]) -> io::Result<()> {
     regular_length(rt, path)?;
     let mut file = OpenOptions::new().write(true).open(rt, path)?;
     file.write_all(bytes)?;
-    file.sync_data()
+    sync(&file)
 }

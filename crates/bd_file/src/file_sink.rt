@@ -2,11 +2,12 @@
 
 ghost use Rattle.std.specs.Prelude.{◌≡◌, ◌≤◌, ◌<◌, None, IfOk, length};
 
+use crate::calls::write_some;
 use crate::faults::FaultCount;
 use crate::paths::{present, regular_length};
 use bd_dev::{Failed, Sink};
-use std::fs::{self, OpenFile, OpenOptions};
-use std::io::{self, ErrorKind, Write};
+use std::fs::{self, OpenOptions};
+use std::io;
 use std::marker::Model;
 use std::rt::Files;
 
@@ -15,6 +16,8 @@ use std::rt::Files;
 pub struct FileSink<'a, R> {
     rt: &'a R,
     path: &'a str,
+    // What stands at the path could not be replaced, so nothing may be written to it.
+    is_stale: bool,
     faults: FaultCount,
 }
 
@@ -34,13 +37,15 @@ impl<'a, R: Files> FileSink<'a, R> {
         FileSink {
             rt,
             path,
+            is_stale: false,
             faults: FaultCount::new(),
         }
     }
 
-    /// Makes the file, or cuts off all that it holds. An error is told by the first write, which fails then.
-    pub fn clear(&self) {
-        let _cleared = clear_file(self.rt, self.path);
+    /// Takes away what stands at the path, a link itself and not what it leads to, and makes an empty file there.
+    /// Where that can't be done, each write fails.
+    pub fn make_anew(&mut self) {
+        self.is_stale = replace_file(self.rt, self.path).is_err();
     }
 }
 
@@ -50,22 +55,24 @@ impl<'a, R: Files> Sink for FileSink<'a, R> {
     ghost faults = { λ faults. faults };
 
     /// Opens the file anew and writes once, at its end. Never makes the file. A missing file and each error of the
-    /// system is a fault, and so is a file that takes nothing of a nonempty piece.
+    /// system is a fault, and so is a file that takes nothing of a nonempty piece, and one that could not be made anew.
     fn write(&mut self, bytes: &[u8]) -> Result<usize, Failed> {
+        if self.is_stale {
+            return Err(self.faults.count());
+        }
         let written = append(self.rt, self.path, bytes);
         self.faults.counted(written)
     }
 }
 
-// Opening a FIFO would wait for its other end, so what is no regular file is left alone.
-fn clear_file<R: Files>(rt: &R, path: &str) -> io::Result<()> {
-    if let Some(data) = present(fs::metadata(rt, path))? {
-        if !data.is_file() {
-            return Err(io::Error::from(ErrorKind::InvalidInput));
-        }
-    }
-    let file = fs::create(rt, path)?;
-    file.set_len(0)
+// Only what was not there before is opened: a link would lead elsewhere, and a FIFO would wait for its other end.
+fn replace_file<R: Files>(rt: &R, path: &str) -> io::Result<()> {
+    present(fs::remove_file(rt, path))?;
+    OpenOptions::new()
+        .write(true)
+        .create_new(true)
+        .open(rt, path)?;
+    Ok(())
 }
 
 fn append<R: Files>(rt: &R, path: &str, bytes: &[u8]) -> io::Result<usize>
@@ -74,9 +81,5 @@ fn append<R: Files>(rt: &R, path: &str, bytes: &[u8]) -> io::Result<usize>
 {
     regular_length(rt, path)?;
     let mut file = OpenOptions::new().append(true).open(rt, path)?;
-    let count = file.write(bytes)?;
-    if count == 0 && !bytes.is_empty() {
-        return Err(io::Error::from(ErrorKind::WriteZero));
-    }
-    Ok(count)
+    write_some(&mut file, bytes)
 }

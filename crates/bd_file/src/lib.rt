@@ -5,6 +5,7 @@
 //! answers within its bounds, and that each failure has raised its count of faults.
 #![tactic(auto)]
 
+mod calls;
 mod eeprom;
 mod faults;
 mod file_sink;

@@ -2,12 +2,13 @@
 
 ghost use Rattle.std.specs.Prelude.{◌≡◌, ◌≤◌, None, IfOk, length};
 
+use crate::calls::read_some;
 use crate::faults::FaultCount;
 use crate::paths::{path_of, present};
 use bd_dev::{Bytes, DevFault, Failed, Media, Memory, Names};
 use std::alloc::Global;
 use std::fs;
-use std::io::{self, ErrorKind, Read, Seek, SeekFrom};
+use std::io::{self, ErrorKind, Seek, SeekFrom};
 use std::marker::Model;
 use std::path::Path;
 use std::rt::Files;
@@ -164,5 +165,5 @@ fn read_piece<R: Files>(rt: &R, path: &str, at: u64, out: &mut [u8]) -> io::Resu
         return Ok(0);
     };
     file.seek(SeekFrom::Start(at))?;
-    file.read(out)
+    read_some(&mut file, out)
 }

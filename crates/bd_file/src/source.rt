@@ -2,11 +2,12 @@
 
 ghost use Rattle.std.specs.Prelude.{◌≡◌, ◌≤◌, None, IfOk, length};
 
+use crate::calls::read_some;
 use crate::faults::FaultCount;
 use crate::paths::regular_length;
 use bd_dev::{Failed, Source};
 use std::fs;
-use std::io::{self, Read, Seek, SeekFrom};
+use std::io::{self, Seek, SeekFrom};
 use std::marker::Model;
 use std::rt::Files;
 
@@ -63,5 +64,5 @@ fn read_from<R: Files>(rt: &R, path: &str, at: u64, out: &mut [u8]) -> io::Resul
     regular_length(rt, path)?;
     let mut file = fs::open(rt, path)?;
     file.seek(SeekFrom::Start(at))?;
-    file.read(out)
+    read_some(&mut file, out)
 }

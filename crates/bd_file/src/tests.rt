@@ -90,11 +90,11 @@ fn a_file_takes_bytes_at_its_end(rt: HostRuntime) -> Result<(), Fail> {
     let path = "bd_file_sink.txt";
     let mut sink = FileSink::new(&rt, path);
     assert_eq!(rt; sink.write(b"x"), Err(Failed));
-    sink.clear();
+    sink.make_anew();
     assert_eq!(rt; sink.write(b"1 0 a"), Ok(5));
     assert_eq!(rt; sink.write(b"\n"), Ok(1));
     assert_eq!(rt; fs::metadata(&rt, path)?.len(), 6);
-    sink.clear();
+    sink.make_anew();
     assert_eq!(rt; fs::metadata(&rt, path)?.len(), 0);
     fs::remove_file(&rt, path)?;
     Ok(())

@@ -6,11 +6,12 @@ use Rattle.bd_dev.specs.declared.plant.Area.TheVariants.{Disk, Flash}
 use Rattle.bd_dev.specs.Calls.{after_call}
 use Rattle.bd_dev.specs.Content.{Outside, window}
 use Rattle.bd_dev.specs.Faults.{one_more}
-use Rattle.bd_dev.specs.Plant.{ReadsBetween, Passes, OnlyReads, WritesTo, Syncs, AreUnsynced, IsSynced}
+use Rattle.bd_dev.specs.Plant.{written_more, ReadsBetween, Passes, OnlyReads, WritesTo, Syncs, AreUnsynced, IsSynced}
 use Rattle.bd_sim.specs.declared.journal.Noted.{Noted}
+use Rattle.bd_sim.specs.declared.written.Written.{Written}
 use Rattle.bd_sim.specs.declared.journal.Step.TheVariants.{Write, FailedWrite, Sync}
-use Rattle.bd_sim.specs.Journal.{State, same_area, in_range, patch, step}
-use Rattle.bd_sim.specs.View.{PlantInMemory, now, view_of, counted, noted, written, synced, FailsWrite}
+use Rattle.bd_sim.specs.Journal.{State, of_area, same_area, in_range, patch, step}
+use Rattle.bd_sim.specs.View.{PlantInMemory, after_writing, now, view_of, counted, noted, written, synced, FailsWrite}
 use Rattle.bd_sim.proofs.Steps.{now_longer, passes_longer, passes_same, between_longer, between_same}
 use Rattle.bd_sim.proofs.Replaying.{window_is}
 
@@ -33,6 +34,17 @@ inside_range lba n s low high = grind (arith, nat_tests)
 
 is_true : IsTrue true
 is_true = search rules
+
+-- the count of one area alone is higher
+counts_here : (w : Written) (area : Area) (n : ℕ) → of_area (after_writing w area n).disk (after_writing w area n).flash area ≡ written_more (of_area w.disk w.flash area) n
+counts_here w Disk n = refl
+counts_here w Flash n = refl
+
+counts_elsewhere : (w : Written) (area : Area) (n : ℕ) (a : Area) → (a ≡ area → ⊥) → of_area (after_writing w area n).disk (after_writing w area n).flash a ≡ of_area w.disk w.flash a
+counts_elsewhere w Disk n Disk other = absurd (other refl)
+counts_elsewhere w Flash n Flash other = absurd (other refl)
+counts_elsewhere w Disk n Flash other = refl
+counts_elsewhere w Flash n Disk other = refl
 
 -- a call that changed nothing
 pub reads_only : (p q : PlantInMemory) (b : Bool) → q ≡ counted p b → OnlyReads (view_of p) (view_of q)
@@ -93,6 +105,13 @@ sync_time (Ok v) p q area ok err = subst (λ (x : PlantInMemory). Passes (view_o
     (passes_longer p (record { number = one_more p.calls.made; step = Sync area }) (after_call p.calls false) p.writes)
 sync_time (Err e) p q area ok err = passes_counted p q true err
 
+pub sync_between : {T E : Type 0} (r : Result T E) (p q : PlantInMemory) (area : Area) → OnOk r (q ≡ synced p area) → OnErr r (q ≡ counted p true) → ReadsBetween r (view_of p) (view_of q)
+sync_between {T = T} {E = E} (Ok v) p q area ok err =
+    let is_ok : IsOk {T = T} {E = E} (Ok v) = search rules in
+    subst (λ (x : PlantInMemory). ReadsBetween {T = T} {E = E} (Ok v) (view_of p) (view_of x)) (sym ok)
+    (between_longer p (record { number = one_more p.calls.made; step = Sync area }) (after_call p.calls false) p.writes {T = T} {E = E} (Ok v) (inl is_ok))
+sync_between (Err e) p q area ok err = between_counted (Err e) p q true err
+
 -- a write
 module _ (p : PlantInMemory) (area : Area) (lba : ℕ) where
   -- a mark that a write of n sectors adds
@@ -118,7 +137,7 @@ module _ (p : PlantInMemory) (area : Area) (lba : ℕ) where
     n = length bytes / 512
 
     is_now : now (written p area lba bytes) ≡ step (now p) (Write area lba bytes)
-    is_now = now_longer p (record { number = one_more p.calls.made; step = Write area lba bytes }) (after_call p.calls false) (one_more p.writes)
+    is_now = now_longer p (record { number = one_more p.calls.made; step = Write area lba bytes }) (after_call p.calls false) (after_writing p.writes area (length bytes / 512))
 
     sectors : (length bytes + 511) / 512 ≡ n
     sectors = omega arith
@@ -133,7 +152,7 @@ module _ (p : PlantInMemory) (area : Area) (lba : ℕ) where
         unsynced = λ un. subst (λ b. IsTrue b) (marks a s ∙ marked n a s ((now p).unsynced a s) out) un;
         still_unsynced = λ un. subst (λ b. IsTrue b) (sym (marks a s ∙ marked n a s ((now p).unsynced a s) out)) un;
       };
-      counted = omega arith;
+      counted = record { here = counts_here p.writes area n; elsewhere = counts_elsewhere p.writes area n };
     }
 
     are_unsynced : AreUnsynced (view_of (written p area lba bytes)) area lba n
@@ -151,10 +170,10 @@ module _ (p : PlantInMemory) (area : Area) (lba : ℕ) where
   -- a write that failed
   module _ (n : ℕ) where
     abbrev torn : PlantInMemory
-    torn = record (noted p (FailedWrite area lba n) true) { writes = one_more p.writes }
+    torn = record (noted p (FailedWrite area lba n) true) { writes = after_writing p.writes area n }
 
     torn_now : now torn ≡ step (now p) (FailedWrite area lba n)
-    torn_now = now_longer p (record { number = one_more p.calls.made; step = FailedWrite area lba n }) (after_call p.calls true) (one_more p.writes)
+    torn_now = now_longer p (record { number = one_more p.calls.made; step = FailedWrite area lba n }) (after_call p.calls true) (after_writing p.writes area n)
 
     torn_writes : WritesTo area lba n (view_of p) (view_of torn)
     torn_writes = record {
@@ -163,13 +182,13 @@ module _ (p : PlantInMemory) (area : Area) (lba : ℕ) where
         unsynced = λ un. subst (λ b. IsTrue b) (ap (λ (st : State). st.unsynced a s) torn_now ∙ marked n a s ((now p).unsynced a s) out) un;
         still_unsynced = λ un. subst (λ b. IsTrue b) (sym (ap (λ (st : State). st.unsynced a s) torn_now ∙ marked n a s ((now p).unsynced a s) out)) un;
       };
-      counted = omega arith;
+      counted = record { here = counts_here p.writes area n; elsewhere = counts_elsewhere p.writes area n };
     }
 
-    lost_writes : WritesTo area lba n (view_of p) (view_of (record (counted p true) { writes = one_more p.writes }))
+    lost_writes : WritesTo area lba n (view_of p) (view_of (record (counted p true) { writes = after_writing p.writes area n }))
     lost_writes = record {
       outside = λ a s out. record { reads = λ k lt. refl; unsynced = λ un. un; still_unsynced = λ un. un };
-      counted = omega arith;
+      counted = record { here = counts_here p.writes area n; elsewhere = counts_elsewhere p.writes area n };
     }
 
 module _ {T E : Type 0} where
@@ -194,11 +213,11 @@ module _ {T E : Type 0} where
   pub write_time : (r : Result T E) (p q : PlantInMemory) (area : Area) (lba : ℕ) (bytes : List ℕ) → OnOk r (q ≡ written p area lba bytes)
       → OnErr r (FailsWrite p q area lba (length bytes / 512)) → Passes (view_of p) (view_of q)
   write_time (Ok v) p q area lba bytes ok err = subst (λ (x : PlantInMemory). Passes (view_of p) (view_of x)) (sym ok)
-      (passes_longer p (record { number = one_more p.calls.made; step = Write area lba bytes }) (after_call p.calls false) (one_more p.writes))
+      (passes_longer p (record { number = one_more p.calls.made; step = Write area lba bytes }) (after_call p.calls false) (after_writing p.writes area (length bytes / 512)))
   write_time (Err e) p q area lba bytes ok err = elim err [
     | inl is ↦ subst (λ (x : PlantInMemory). Passes (view_of p) (view_of x)) (sym is)
-        (passes_longer p (record { number = one_more p.calls.made; step = FailedWrite area lba (length bytes / 512) }) (after_call p.calls true) (one_more p.writes))
-    | inr is ↦ subst (λ (x : PlantInMemory). Passes (view_of p) (view_of x)) (sym is) (passes_same p (after_call p.calls true) (one_more p.writes))
+        (passes_longer p (record { number = one_more p.calls.made; step = FailedWrite area lba (length bytes / 512) }) (after_call p.calls true) (after_writing p.writes area (length bytes / 512)))
+    | inr is ↦ subst (λ (x : PlantInMemory). Passes (view_of p) (view_of x)) (sym is) (passes_same p (after_call p.calls true) (after_writing p.writes area (length bytes / 512)))
   ]
 
   pub write_between : (r : Result T E) (p q : PlantInMemory) (area : Area) (lba : ℕ) (bytes : List ℕ) → OnOk r (q ≡ written p area lba bytes)
@@ -206,9 +225,9 @@ module _ {T E : Type 0} where
   write_between (Ok v) p q area lba bytes ok err =
       let is_ok : IsOk {T = T} {E = E} (Ok v) = search rules in
       subst (λ (x : PlantInMemory). ReadsBetween {T = T} {E = E} (Ok v) (view_of p) (view_of x)) (sym ok)
-      (between_longer p (record { number = one_more p.calls.made; step = Write area lba bytes }) (after_call p.calls false) (one_more p.writes) {T = T} {E = E} (Ok v) (inl is_ok))
+      (between_longer p (record { number = one_more p.calls.made; step = Write area lba bytes }) (after_call p.calls false) (after_writing p.writes area (length bytes / 512)) {T = T} {E = E} (Ok v) (inl is_ok))
   write_between (Err e) p q area lba bytes ok err = elim err [
     | inl is ↦ subst (λ (x : PlantInMemory). ReadsBetween {T = T} {E = E} (Err e) (view_of p) (view_of x)) (sym is)
-        (between_longer p (record { number = one_more p.calls.made; step = FailedWrite area lba (length bytes / 512) }) (after_call p.calls true) (one_more p.writes) {T = T} {E = E} (Err e) (inr refl))
-    | inr is ↦ subst (λ (x : PlantInMemory). ReadsBetween {T = T} {E = E} (Err e) (view_of p) (view_of x)) (sym is) (between_same p (after_call p.calls true) (one_more p.writes) {T = T} {E = E} (Err e))
+        (between_longer p (record { number = one_more p.calls.made; step = FailedWrite area lba (length bytes / 512) }) (after_call p.calls true) (after_writing p.writes area (length bytes / 512)) {T = T} {E = E} (Err e) (inr refl))
+    | inr is ↦ subst (λ (x : PlantInMemory). ReadsBetween {T = T} {E = E} (Err e) (view_of p) (view_of x)) (sym is) (between_same p (after_call p.calls true) (after_writing p.writes area (length bytes / 512)) {T = T} {E = E} (Err e))
   ]

@@ -3,3 +3,5 @@ mod Replaying
 mod Calls
 mod Picking
 mod Crashes
+mod Opening
+mod Shorts

@@ -9,7 +9,7 @@ use Rattle.bd_dev.specs.declared.plant.Area.TheVariants.{Disk, Flash}
 use Rattle.bd_dev.specs.Calls.{no_calls}
 use Rattle.bd_sim.specs.declared.journal.Noted.{Noted}
 use Rattle.bd_sim.specs.Journal.{same_area, after_each, start, of_area, before_call, with_call}
-use Rattle.bd_sim.specs.View.{PlantInMemory}
+use Rattle.bd_sim.specs.View.{none_written, PlantInMemory}
 use Rattle.bd_sim.specs.Image.{Picked, pick_of, byte_of, picked, IsPicked, IsLeft, crash_image}
 
 -- the pick names this sector
@@ -84,7 +84,7 @@ IsAreaImage disk flash journal moment picks area n bytes = IsPicked
     picks area n bytes
 
 -- a new plant of these bytes
-pub IsLeft-new : (p : PlantInMemory) (moment : ℕ) (picks : List Picked) (q : PlantInMemory) → q.journal ≡ [] → q.calls ≡ no_calls [] → q.writes ≡ 0
+pub IsLeft-new : (p : PlantInMemory) (moment : ℕ) (picks : List Picked) (q : PlantInMemory) → q.journal ≡ [] → q.calls ≡ no_calls [] → q.writes ≡ none_written
     → IsAreaImage p.disk p.flash p.journal moment picks Disk (length p.disk) q.disk
     → IsAreaImage p.disk p.flash p.journal moment picks Flash (length p.flash) q.flash
     → IsLeft p moment picks q

@@ -5,6 +5,7 @@ use Rattle.std.proofs.lemmas.List.{take_all, take-append-le}
 use Rattle.bd_dev.specs.Calls.{Calls}
 use Rattle.bd_dev.specs.Plant.{Passes, ReadsBetween}
 use Rattle.bd_sim.specs.declared.journal.Noted.{Noted}
+use Rattle.bd_sim.specs.declared.written.Written.{Written}
 use Rattle.bd_sim.specs.Journal.{State, step, after_each, start, IsImageOf}
 use Rattle.bd_sim.specs.View.{PlantInMemory, now, state_at, view_of}
 
@@ -13,10 +14,10 @@ after_each-push s [] x = refl
 after_each-push s (y ∷ xs) x = after_each-push (step s y.step) xs x
 
 -- after these noted calls and one more
-abbrev pub longer : PlantInMemory → Noted → Calls → ℕ → PlantInMemory
+abbrev pub longer : PlantInMemory → Noted → Calls → Written → PlantInMemory
 longer p x calls writes = record p { journal = p.journal ++ x ∷ []; calls = calls; writes = writes }
 
-module _ (p : PlantInMemory) (x : Noted) (calls : Calls) (writes : ℕ) where
+module _ (p : PlantInMemory) (x : Noted) (calls : Calls) (writes : Written) where
   abbrev more : PlantInMemory
   more = longer p x calls writes
 
@@ -63,13 +64,17 @@ module _ (p : PlantInMemory) (x : Noted) (calls : Calls) (writes : ℕ) where
       ]
     ];
     keeps = λ since c le left. (left.0, left.1, omega (arith, one_more_long, left.2), left.3 ∙ ap (λ (s : State). s.reads) (sym (at_past left.0 left.2)));
+    added = λ ok since le. (length more.journal, omega (arith, one_more_long, le), le_refl_more, ap (λ (s : State). s.reads) (sym (at_end (length more.journal) le_refl_more)));
   }
     where
+      le_refl_more : length more.journal ≤ length more.journal
+      le_refl_more = omega arith
+
       le_refl : length p.journal ≤ length p.journal
       le_refl = omega arith
 
 -- a call that isn't noted
-module _ (p : PlantInMemory) (calls : Calls) (writes : ℕ) where
+module _ (p : PlantInMemory) (calls : Calls) (writes : Written) where
   abbrev pub unnoted : PlantInMemory
   unnoted = record p { calls = calls; writes = writes }
 
@@ -83,4 +88,8 @@ module _ (p : PlantInMemory) (calls : Calls) (writes : ℕ) where
   }
 
   pub between_same : {T E : Type 0} (r : Result T E) → ReadsBetween r (view_of p) (view_of unnoted)
-  between_same r = record { nothing_else = λ since c le left. inl left; keeps = λ since c le left. left }
+  between_same r = record {
+    nothing_else = λ since c le left. inl left;
+    keeps = λ since c le left. left;
+    added = λ ok since le. (length p.journal, le, omega arith, ap (λ (l : List Noted). (after_each (start p.disk p.flash) l).reads) (sym (take_all (length p.journal) p.journal (omega arith))));
+  }

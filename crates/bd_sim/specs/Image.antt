@@ -9,7 +9,7 @@ use Rattle.bd_sim.specs.declared.image.Pick.{Pick}
 use Rattle.bd_sim.specs.declared.image.Pick.TheVariants.{Old, New, Torn}
 use Rattle.bd_sim.specs.declared.journal.Noted.{Noted}
 use Rattle.bd_sim.specs.Journal.{same_area, after_each, start, of_area, before_call, with_call}
-use Rattle.bd_sim.specs.View.{PlantInMemory, before, after, view_of}
+use Rattle.bd_sim.specs.View.{none_written, PlantInMemory, before, after, view_of}
 
 -- a sector, by its area and its address, and what is left of it
 abbrev pub Picked : Type 0
@@ -60,4 +60,4 @@ pub record IsLeft (p : PlantInMemory) (moment : ℕ) (picks : List Picked) (q : 
   pub synced : (a : Area) → IsSynced (view_of q) a
   pub no_journal : q.journal ≡ []
   pub no_calls : q.calls ≡ no_calls []
-  pub no_writes : q.writes ≡ 0
+  pub no_writes : q.writes ≡ none_written

@@ -1,3 +1,4 @@
 pub mod Journal
 pub mod View
 pub mod Image
+pub mod Open

@@ -6,19 +6,31 @@ use Rattle.bd_dev.specs.declared.plant.Area.{Area}
 use Rattle.bd_dev.specs.Calls.{Calls, after_call}
 use Rattle.bd_dev.specs.Content.{Image}
 use Rattle.bd_dev.specs.Faults.{one_more}
-use Rattle.bd_dev.specs.Plant.{View, IsHonest}
+use Rattle.bd_dev.specs.Plant.{View, IsHonest, written_more}
 use Rattle.bd_sim.specs.declared.journal.Noted.{Noted}
 use Rattle.bd_sim.specs.declared.journal.Step.{Step}
+use Rattle.bd_sim.specs.declared.written.Written.{Written}
 use Rattle.bd_sim.specs.declared.journal.Step.TheVariants.{Write, FailedWrite, Sync}
 use Rattle.bd_sim.specs.Journal.{State, after_each, start, of_area, before_call, with_call, IsImageOf}
 
--- what the areas held at first, the calls that changed that, all calls, and the count of writes
+-- no sector was written
+abbrev pub none_written : Written
+none_written = record { disk = 0; flash = 0 }
+
+-- after n sectors of an area more
+abbrev pub after_writing : Written → Area → ℕ → Written
+after_writing w area n = record {
+  disk = of_area (written_more w.disk n) w.disk area;
+  flash = of_area w.flash (written_more w.flash n) area;
+}
+
+-- what the areas held at first, the calls that changed that, all calls, and how many sectors were written
 pub record PlantInMemory : Type 0 where
   pub disk : List ℕ
   pub flash : List ℕ
   pub journal : List Noted
   pub calls : Calls
-  pub writes : ℕ
+  pub writes : Written
 
 -- now
 abbrev pub now : PlantInMemory → State
@@ -45,7 +57,7 @@ view_of p = record {
   moment = length p.journal;
   left_since = λ t c. (k : ℕ) × (t ≤ k) × (k ≤ length p.journal) × IsImageOf (state_at p k) c;
   read_since = λ t c. (k : ℕ) × (t ≤ k) × (k ≤ length p.journal) × (c ≡ (state_at p k).reads);
-  writes = p.writes;
+  writes = of_area p.writes.disk p.writes.flash;
   faults = p.calls.faults;
 }
 
@@ -82,13 +94,13 @@ noted p step failed = record (counted p failed) {
 
 -- after a write of these bytes
 abbrev pub written : PlantInMemory → Area → ℕ → List ℕ → PlantInMemory
-written p area lba bytes = record (noted p (Write area lba bytes) false) { writes = one_more p.writes }
+written p area lba bytes = record (noted p (Write area lba bytes) false) { writes = after_writing p.writes area (length bytes / 512) }
 
 -- after a write of n sectors that failed; for want of memory it may go unnoted
 abbrev pub FailsWrite : PlantInMemory → PlantInMemory → Area → ℕ → ℕ → Type 0
 FailsWrite p q area lba n =
-    (q ≡ record (noted p (FailedWrite area lba n) true) { writes = one_more p.writes })
-    ⊎ (q ≡ record (counted p true) { writes = one_more p.writes })
+    (q ≡ record (noted p (FailedWrite area lba n) true) { writes = after_writing p.writes area n })
+    ⊎ (q ≡ record (counted p true) { writes = after_writing p.writes area n })
 
 -- after a sync
 abbrev pub synced : PlantInMemory → Area → PlantInMemory

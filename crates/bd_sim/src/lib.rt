@@ -4,9 +4,13 @@
 
 mod image;
 mod journal;
+mod open;
 mod plant;
+mod snapshot;
 #[cfg(test)]
 mod tests;
+mod written;
 
 pub use image::Pick;
 pub use plant::SimPlant;
+pub use snapshot::Snapshot;

@@ -7,10 +7,14 @@ ghost use Rattle.bd_dev.specs.Faults.{HasCause};
 ghost use Rattle.bd_dev.specs.Plant.{View, AreUnsynced, IsHonest, IsRange, IsSynced, KeepsUnsynced, OnlyReads, Passes, ReadsBetween, Syncs, WritesTo};
 ghost use Rattle.bd_sim.specs.Journal.{before_call, of_area};
 ghost use Rattle.bd_sim.specs.Image.{IsLeft, allows, crash_image};
-ghost use Rattle.bd_sim.specs.View.{PlantInMemory, FailsWrite, counted, synced, view_of, written};
+ghost use Rattle.bd_sim.specs.Open.{IsInShort, IsTaken, open_sectors};
+ghost use Rattle.bd_sim.specs.View.{PlantInMemory, FailsWrite, counted, none_written, synced, view_of, written};
 
 use crate::image::{Pick, area_image, may_tear_all};
 use crate::journal::{Noted, Step, note, read_back};
+use crate::open::push_open;
+use crate::snapshot::{Snapshot, new_content, old_content};
+use crate::written::Written;
 use bd_dev::{Area, CallCounter, Failed, Memory, Plant};
 use std::alloc::Global;
 use std::marker::Model;
@@ -23,7 +27,7 @@ pub struct SimPlant {
     flash: Vec<u8>,
     journal: Vec<Noted>,
     calls: CallCounter,
-    writes: u64,
+    writes: Written,
 }
 
 impl Model for SimPlant {
@@ -59,7 +63,7 @@ impl SimPlant {
           flash = flash.now;
           journal = [];
           calls = no_calls fails.now;
-          writes = 0;
+          writes = none_written;
         }) }
     {
         Ok(SimPlant {
@@ -68,7 +72,7 @@ impl SimPlant {
             flash: Vec::from_slice(alloc, flash)?,
             journal: Vec::new(alloc),
             calls: CallCounter::new(alloc, fails)?,
-            writes: 0,
+            writes: Written { disk: 0, flash: 0 },
         })
     }
 
@@ -77,6 +81,13 @@ impl SimPlant {
         ensures { result ≡ self.now.calls.made }
     {
         self.calls.made()
+    }
+
+    /// How many sectors of an area its writes were given, whatever they answered, up to the greatest count.
+    pub fn writes(&self, area: Area) -> u64
+        ensures { result ≡ (view_of self.now).writes area }
+    {
+        self.writes.of(area)
     }
 
     /// Whether these picks may be asked of `image`: call number `moment` was made, or it is 0, and each sector was
@@ -95,6 +106,17 @@ impl SimPlant {
         ensures left { IfOk result (IsLeft self.now moment picks.now) }
         ensures crash { OnOk result ((t : ℕ) → t ≤ before_call self.now.journal moment
             → (view_of self.now).left_since t (crash_image self.now moment picks.now)) }
+    {
+        self.left_by(moment, picks)
+    }
+
+    /// The same by any picks.
+    pub(crate) fn left_by(
+        &self,
+        moment: u64,
+        picks: &[(Area, u64, Pick)],
+    ) -> Result<SimPlant, Memory>
+        ensures { IfOk result (IsLeft self.now moment picks.now) }
     {
         Ok(SimPlant {
             alloc: self.alloc,
@@ -116,7 +138,60 @@ impl SimPlant {
             )?,
             journal: Vec::new(self.alloc),
             calls: CallCounter::new(self.alloc, &[])?,
-            writes: 0,
+            writes: Written { disk: 0, flash: 0 },
+        })
+    }
+
+    /// The sectors that may be picked within call number `moment`, the disk's first, each area's in order. Or
+    /// `Memory`.
+    pub fn open_sectors(&self, moment: u64) -> Result<Vec<(Area, u64)>, Memory>
+        ensures { IfOk result (λ sectors. sectors.items ≡ open_sectors self.now moment) }
+    {
+        let (alloc, journal) = (self.alloc, &self.journal);
+        let mut sectors = Vec::new(alloc);
+        push_open(alloc, &self.disk, journal, Area::Disk, moment, &mut sectors)?;
+        push_open(
+            alloc,
+            &self.flash,
+            journal,
+            Area::Flash,
+            moment,
+            &mut sectors,
+        )?;
+        Ok(sectors)
+    }
+
+    /// The plant within call number `moment`, 0 before the first: it keeps what the areas held and would hold, so that
+    /// the calls aren't gone over for each image. Or `Memory`.
+    pub fn snapshot(&self, moment: u64) -> Result<Snapshot, Memory>
+        requires { moment ≤ self.now.calls.made }
+        ensures { IfOk result (IsTaken self.now moment) }
+    {
+        let sectors = self.open_sectors(moment)?;
+        let short = self.in_short(moment)?;
+        Ok(Snapshot { short, sectors })
+    }
+
+    // A plant whose areas hold what was synced before the call, and whose two calls write all that the call would leave.
+    fn in_short(&self, moment: u64) -> Result<SimPlant, Memory>
+        ensures { IfOk result (IsInShort self.now moment) }
+    {
+        let alloc = self.alloc;
+        let disk = new_content(alloc, &self.disk, &self.journal, Area::Disk, moment)?;
+        let flash = new_content(alloc, &self.flash, &self.journal, Area::Flash, moment)?;
+        let mut journal = Vec::new(alloc);
+        note(&mut journal, Noted::write(alloc, 1, Area::Disk, 0, &disk)?)?;
+        note(
+            &mut journal,
+            Noted::write(alloc, 2, Area::Flash, 0, &flash)?,
+        )?;
+        Ok(SimPlant {
+            alloc,
+            disk: old_content(alloc, &self.disk, &self.journal, Area::Disk, moment)?,
+            flash: old_content(alloc, &self.flash, &self.journal, Area::Flash, moment)?,
+            journal,
+            calls: CallCounter::new(alloc, &[])?,
+            writes: Written { disk: 0, flash: 0 },
         })
     }
 
@@ -144,7 +219,7 @@ impl SimPlant {
         ensures failed { OnErr result
             (FailsWrite self.old self.new area lba (length bytes.now / 512)) }
     {
-        self.writes = self.writes.saturating_add(1);
+        self.writes = self.writes.and(area, bytes.len() as u64 / 512);
         if let Err(failed) = self.calls.next() {
             let step = Step::FailedWrite {
                 area,

@@ -8,7 +8,7 @@ use crate::parts::{Form, joined_bytes, push_mark};
 use arrayvec::ArrayString;
 
 /// An IPv4 address.
-#[derive(Clone, Copy, Debug, PartialEq, Eq)]
+#[derive(Clone, Copy, Debug, Default, PartialEq, Eq)]
 pub struct V4 {
     /// The bytes in the order in which they are sent.
     pub bytes: [u8; 4],

@@ -12,7 +12,7 @@ use arrayvec::ArrayString;
 use byteorder::{BigEndian, ByteOrder};
 
 /// An IPv6 address.
-#[derive(Clone, Copy, Debug, PartialEq, Eq)]
+#[derive(Clone, Copy, Debug, Default, PartialEq, Eq)]
 pub struct V6 {
     /// The bytes in the order in which they are sent.
     pub bytes: [u8; 16],

@@ -1,5 +1,7 @@
 mod Noting
-mod Keeping
-mod Refusing
-mod Openings
+pub mod Keeping
+pub mod Leaving
+pub mod Refusing
+pub mod Openings
+pub mod Settling
 mod VariableChanges

@@ -1,5 +1,5 @@
 -- How a plant is readied: nothing is unsynced, then the copies are repaired, and then the table is tested.
-use Rattle.std.proofs.Common.{◌≡◌, ◌≢◌, ◌⊎◌, inl, inr, ⊎_elim, ℕ, ◌-◌, Option, Some, None, IfSome, Result, Ok, Err, IfOk, refl, sym, ◌∙◌, ap, subst, arith}
+use Rattle.std.proofs.Common.{◌≡◌, ◌⊎◌, inl, inr, ⊎_elim, ℕ, ◌-◌, Option, Some, None, IfSome, Result, Ok, Err, IfOk, refl, sym, ◌∙◌, ap, subst, arith}
 use Rattle.bd_dev.specs.declared.plant.Area.{Area}
 use Rattle.bd_dev.specs.declared.plant.Area.TheVariants.{Disk, Flash}
 use Rattle.bd_dev.specs.Content.{Image}
@@ -9,9 +9,9 @@ use Rattle.boot_vars.proofs.Kept.{fits_vars_then}
 use Rattle.gpt_copy.specs.Copy.{FitsDisk}
 use Rattle.gpt_copy.specs.declared.table.Entry.{Entry}
 use Rattle.gpt_copy.specs.declared.table.Table.{Table}
-use Rattle.plant_runs.specs.Runs.{LeavesOnly, Looks, ReadsOnly}
-use Rattle.plant_runs.proofs.Joins.{leaves_then, reads_then}
-use Rattle.plant_runs.proofs.Touch.{reads_weaker}
+use Rattle.bd_dev.specs.Runs.{LeavesOnly, Looks, ReadsOnly}
+use Rattle.bd_dev.proofs.Joins.{leaves_then, reads_then}
+use Rattle.bd_dev.proofs.Touch.{reads_weaker}
 use Rattle.slot_pair.specs.Pair.{IsKept}
 use Rattle.storage_model.specs.Disk.{table_of}
 use Rattle.storage_model.specs.Entries.{HasEntry, IsSane}
@@ -21,11 +21,11 @@ use Rattle.soundness.specs.declared.judging.SoundKind.{SoundKind}
 use Rattle.soundness.specs.declared.judging.SoundKind.TheVariants as kinds
 use Rattle.soundness.specs.Judgement.{IsFaultOf, IsTableFault, IsUnsound, MayHold}
 use Rattle.soundness.proofs.Verdicts.{one_reason, sound_not_unsound}
-use Rattle.cuts.specs.Copies.{AgreesOffTable, HasSameTable, IsCleanOpening, OffCopies, ReadsBoth, TouchesCopies}
+use Rattle.storage_model.specs.Copies.{AgreesOffTable, HasSameTable, IsCleanOpening, OffCopies, ReadsBoth, TouchesCopies}
 use Rattle.cuts.specs.Spans.{IsSettledFrom, MayBeOpeningCut, Opens}
 use Rattle.cuts.proofs.Copying.{table_of_both}
 use Rattle.cuts.proofs.Images.{image_kept}
-use Rattle.cuts.proofs.Openings.{IsQuiet, IsSettled, opens_repair, quiet_look, settled_then}
+use Rattle.cuts.proofs.Openings.{IsQuiet, IsSettled, opens_repair, quiet_look, repair_settled, settled_then}
 use Rattle.cuts.proofs.Places.{entry_off}
 use Rattle.cuts.proofs.Steady.{whole_area}
 use Rattle.board.specs.declared.opening.OpenFault.{OpenFault}
@@ -104,12 +104,12 @@ fault_kept size z c t kinds.NoVars fits agrees fault = (
 )
 
 -- the tests find the one reason, or the plant fails
-pub exactly : (size : Area → ℕ) (c : Image) (result : Result Opened OpenFault) (kind : SoundKind) → ((k : SoundKind) → result ≡ Err (NotSound k) → IsUnsound size c k) → IfOk result (λ opened. IsSoundBoard size c) → result ≢ Err Memory
-    → IsUnsound size c kind → (result ≡ Err (NotSound kind)) ⊎ (result ≡ Err Fault)
-exactly size c (Ok opened) kind reason sound memory unsound = absurd (sound_not_unsound size c kind sound unsound)
-exactly size c (Err (NotSound k)) kind reason sound memory unsound = inl (ap (λ (l : SoundKind). Err (NotSound l)) (one_reason size c k kind (reason k refl) unsound))
-exactly size c (Err Fault) kind reason sound memory unsound = inr refl
-exactly size c (Err Memory) kind reason sound memory unsound = absurd (memory refl)
+pub exactly : (size : Area → ℕ) (c : Image) (result : Result Opened OpenFault) (kind : SoundKind) → ((k : SoundKind) → result ≡ Err (NotSound k) → IsUnsound size c k) → IfOk result (λ opened. IsSoundBoard size c)
+    → IsUnsound size c kind → (result ≡ Err (NotSound kind)) ⊎ ((result ≡ Err Fault) ⊎ (result ≡ Err Memory))
+exactly size c (Ok opened) kind reason sound unsound = absurd (sound_not_unsound size c kind sound unsound)
+exactly size c (Err (NotSound k)) kind reason sound unsound = inl (ap (λ (l : SoundKind). Err (NotSound l)) (one_reason size c k kind (reason k refl) unsound))
+exactly size c (Err Fault) kind reason sound unsound = inr (inl refl)
+exactly size c (Err Memory) kind reason sound unsound = inr (inr refl)
 
 -- both syncs, and then reads alone
 pub settled_look : (old one mid : View) → old.tells → IsQuiet old one → IsSynced one Disk → IsSynced one Flash → Looks one mid → IsSettled old mid
@@ -133,7 +133,11 @@ module _ (old mid new : View) (tells : old.tells) (settled : IsSettled old mid) 
       → (mid.tells → ReadsOnly mid new (λ c. IsCleanOpening (mid.size Disk) mid.reads c × HasSameTable (mid.size Disk) mid.reads c)) → Opens old new
   opens_mended honest crash between =
       let then = settled.quiet.continues.still_tells tells in
-      opens_repair old mid new honest then settled touches (crash then) (reads_weaker mid new _ _ (between then) (λ c both. both.0))
+      opens_repair old mid new then settled touches (crash then) honest (reads_weaker mid new _ _ (between then) (λ c both. both.0))
+
+  -- and from the first moment of the repair on a crash leaves cuts alone
+  pub settled_mended : (mid.tells → LeavesOnly mid new (λ c. IsCleanOpening (mid.size Disk) mid.reads c → HasSameTable (mid.size Disk) mid.reads c)) → IsSettledFrom old new mid.moment
+  settled_mended crash = let then = settled.quiet.continues.still_tells tells in repair_settled old mid new then settled touches (crash then)
 
   sizes : new.size ≡ old.size
   sizes = λ i a. (touches.continues.size a ∙ settled.quiet.continues.size a) i
@@ -186,6 +190,15 @@ module _ (old mid new : View) (tells : old.tells) (settled : IsSettled old mid) 
 
     cut_image : (c : Image) → IsImage new c → MayBeOpeningCut old.size old.reads c
     cut_image c image = subst (λ (x : Image). MayBeOpeningCut old.size old.reads x) (λ i a. (sym (whole_area (new.reads a) (c a) (λ s. image a s (none_unsynced a s)))) i) cut_now
+
+    pub settled_tested : (last : View) (m : ℕ) → IsSettledFrom old new m → Looks new last → IsSettledFrom old last m
+    settled_tested last m from looks =
+        let crash = (looks.told (touches.continues.still_tells (settled.quiet.continues.still_tells tells))).crash in
+        record {
+          from = from.from;
+          to = omega (arith, from.to, crash.later);
+          cuts = λ c left. ⊎_elim (from.cuts c) (cut_image c) (crash.before m c from.to left);
+        }
 
     -- then a run that only reads
     pub opens_tested : (last : View) → Opens old new → Looks new last → Opens old last

@@ -3,8 +3,8 @@ use Rattle.std.proofs.Common.{◌≡◌, inl, inr, ℕ, Bool, cond, ◌+◌, ◌
 use Rattle.std.proofs.lemmas.Bool.{cases_lt}
 use Rattle.std.proofs.lemmas.Bool.Decides.{nat_tests}
 use Rattle.board.specs.declared.fault.BoardFault.TheVariants.{OnTable, Range}
-use Rattle.board.specs.Changes.{put_refusal, touches_copies}
-use Rattle.cuts.specs.Copies.{OffCopies}
+use Rattle.board.specs.Changes.{put_refusal}
+use Rattle.storage_model.specs.Copies.{OffCopies, touches_copies}
 use Rattle.cuts.specs.Orderly.{IsLawfulPut}
 use Rattle.gpt_copy.specs.declared.table.Table.{Table}
 use Rattle.gpt_copy.specs.Copy.{FitsDisk}

@@ -1,15 +1,12 @@
 -- The changes of a board: why one is refused, and what it notes.
-use Rattle.std.specs.Prelude.{◌≡◌, ◌⊎◌, ℕ, ◌+◌, ◌-◌, [], ◌∷◌, ◌++◌, Bool, true, false, ◌&&◌, ◌||◌, nat_lt, if◌then◌else◌, Option, Some, None, Result, Ok, Err}
+use Rattle.std.specs.Prelude.{◌≡◌, ◌⊎◌, ℕ, ◌+◌, [], ◌∷◌, ◌++◌, Bool, true, false, nat_lt, if◌then◌else◌, Option, Some, None, Result, Ok, Err}
 use Rattle.boot_vars.specs.declared.fault.VarFault.{VarFault}
 use Rattle.boot_vars.specs.declared.fault.VarFault.TheVariants as var_faults
 use Rattle.cuts.specs.declared.effect.Effect.{Effect}
+use Rattle.storage_model.specs.Copies.{touches_copies}
 use Rattle.board.specs.declared.board.Held.{Held}
 use Rattle.board.specs.declared.fault.BoardFault.{BoardFault}
 use Rattle.board.specs.declared.fault.BoardFault.TheVariants.{Range, OnTable, BadName, BadText, VarsFull, SeqEnd, Fault, Memory}
-
--- n sectors from this address on touch one of the 33 behind the first, or of the last 33
-abbrev pub touches_copies : ℕ → ℕ → ℕ → Bool
-touches_copies size lba n = (nat_lt lba 34 && nat_lt 1 (lba + n)) || nat_lt (size - 33) (lba + n)
 
 -- why n sectors are not put: they pass the disk's end, or they touch a copy of the table
 unfoldable pub put_refusal : ℕ → ℕ → ℕ → Option BoardFault

@@ -3,7 +3,7 @@ use Rattle.std.specs.Prelude.{◌≡◌, ◌-◌, Some}
 use Rattle.bd_dev.specs.declared.plant.Area.TheVariants.{Disk, Flash}
 use Rattle.bd_dev.specs.Plant.{View, IsSynced}
 use Rattle.boot_vars.specs.Vars.{FitsVars}
-use Rattle.cuts.specs.Copies.{ReadsBoth}
+use Rattle.storage_model.specs.Copies.{ReadsBoth}
 use Rattle.gpt_copy.specs.Copy.{FitsDisk}
 use Rattle.storage_model.specs.Disk.{table_of}
 use Rattle.storage_model.specs.Entries.{IsSane}

@@ -1,6 +1,6 @@
 //! A board, and what is read of it.
 
-ghost use Rattle.std.specs.Prelude.{◌≡◌, ◌≢◌, ◌⊎◌, ◌≤◌, ◌↔◌, ◌*◌, true, false, [], length, IsTrue, Err, IfOk, OnErr, OnOk};
+ghost use Rattle.std.specs.Prelude.{◌≡◌, ◌⊎◌, ◌≤◌, ◌↔◌, ◌*◌, true, false, [], length, IsTrue, Err, IfOk, OnErr, OnOk};
 ghost use Rattle.bd_dev.specs.declared.plant.Area.TheVariants.{Disk};
 ghost use Rattle.bd_dev.specs.Content.{window};
 ghost use Rattle.bd_dev.specs.Faults.{HasCause};
@@ -8,19 +8,20 @@ ghost use Rattle.bd_dev.specs.Plant.{IsRange};
 ghost use Rattle.soundness.specs.declared.judging.SoundKind.{SoundKind};
 ghost use Rattle.soundness.specs.Judgement.{HoldsOnie, IsUnsound};
 ghost use Rattle.cuts.specs.Law.{IsStart};
-ghost use Rattle.cuts.specs.Spans.{Opens, Spans, state_of};
+ghost use Rattle.cuts.specs.Spans.{EndsSettled, Opens, Spans, state_of};
+ghost use Rattle.bd_dev.specs.Runs.{Continues, WritesAtMost};
+ghost use Rattle.storage_model.specs.Copies.{AgreesOffTable, TouchesLesser};
 ghost use Rattle.cuts.specs.States.{nothing};
-ghost use Rattle.board.specs.Held.{IsLive, Keeps, value_of};
+ghost use Rattle.board.specs.Held.{IsLive, Keeps, disk_of, value_of};
 ghost use Rattle.board.specs.Journal.{total_of};
 ghost use Rattle.board.specs.Opening.{IsReadOf, IsReady};
 
 use crate::journal::Journal;
 use crate::opening::{OpenFault, Opened, prepare};
-use bd_dev::{Area, Failed, Memory, Plant};
+use bd_dev::{Area, Failed, Memory, Plant, read_sectors};
 use boot_vars::BootVars;
 use cuts::Effect;
 use gpt_copy::Table;
-use plant_runs::read_sectors;
 use soundness::has_onie_image;
 use std::alloc::Global;
 
@@ -45,10 +46,15 @@ pub struct Board<'a, P: Plant> {
 impl<'a, P: Plant> Board<'a, P> {
     /// Readies a sound board, see [`prepare`], and gives it with no effects yet.
     ///
+    /// Of the plant of a board that was refused no clause can speak here: who needs that calls [`prepare`], which speaks
+    /// of it at every answer, and then [`Board::over`].
+    ///
     /// `NotSound` with the first test that fails, in the order of [`SoundKind`](soundness::SoundKind). `Fault` where the
-    /// plant fails.
+    /// plant fails. `Memory` where that is wanting.
     pub fn open(alloc: Global, plant: &'a mut P) -> Result<Board<'a, P>, OpenFault>
         ensures same_reference { IfOk result (λ board. board.plant.ghost_name ≡ plant.entry.ghost_name) }
+        ensures continues { IfOk result (λ board. Continues (P.view plant.old) (P.view board.plant.now)) }
+        ensures quiet { IfOk result (λ board. (P.view board.plant.now).faults ≡ (P.view plant.old).faults) }
         ensures live { IfOk result (λ board. IsLive (P.view board.plant.now) board.held) }
         ensures fresh { IfOk result (λ board. board.held.journal.effects ≡ []) }
         ensures start { IfOk result (λ board. (P.view board.plant.now).tells
@@ -56,13 +62,17 @@ impl<'a, P: Plant> Board<'a, P> {
         ensures unsound { (kind : SoundKind) → (P.view plant.old).tells → result ≡ Err (OpenFault.NotSound kind)
             → IsUnsound (P.view plant.old).size (P.view plant.old).reads kind }
         ensures exact { (kind : SoundKind) → (P.view plant.old).tells → IsUnsound (P.view plant.old).size (P.view plant.old).reads kind
-            → (result ≡ Err (OpenFault.NotSound kind)) ⊎ (result ≡ Err OpenFault.Fault) }
-        ensures no_memory { result ≢ Err OpenFault.Memory }
+            → (result ≡ Err (OpenFault.NotSound kind)) ⊎ ((result ≡ Err OpenFault.Fault) ⊎ (result ≡ Err OpenFault.Memory)) }
         ensures opens { (P.view plant.old).tells → IfOk result (λ board. Opens (P.view plant.old) (P.view board.plant.now)) }
+        ensures settled { (P.view plant.old).tells → IfOk result (λ board. EndsSettled (P.view plant.old) (P.view board.plant.now)) }
+        ensures kept { (P.view plant.old).tells → IfOk result (λ board.
+            AgreesOffTable ((P.view plant.old).size Disk) (P.view plant.old).reads (P.view board.plant.now).reads) }
+        ensures lesser { (P.view plant.old).tells → IfOk result (λ board. TouchesLesser (P.view plant.old) (P.view board.plant.now)) }
+        ensures wears { (P.view plant.old).tells → IfOk result (λ board. WritesAtMost Disk 33 (P.view plant.old) (P.view board.plant.now)) }
         ensures read { (P.view plant.old).tells
             → IfOk result (λ board. IsReadOf (P.view plant.old) (record { table = board.held.table; vars = board.held.vars })) }
     {
-        let opened = prepare(plant)?;
+        let opened = prepare(alloc, plant)?;
         Ok(Board::over(alloc, plant, opened))
     }
 
@@ -95,12 +105,13 @@ impl<'a, P: Plant> Board<'a, P> {
     /// Sets memory aside for so many effects in all, a text of 8,180 bytes for each. From then on [`Board::sync`],
     /// `set_table`, `set_var` and `unset_var` take from it, and answer `Memory` only once it is used up.
     pub fn reserve(&mut self, effects: usize) -> Result<(), Memory>
-        requires live { self.old.held.failed ≡ false }
+        requires live { IsLive (P.view self.old.plant.now) self.old.held }
         ensures same_reference { self.new.plant.ghost_name ≡ self.old.plant.ghost_name }
         ensures plant { self.new.plant.now ≡ self.old.plant.now }
         ensures table { self.new.held.table ≡ self.old.held.table }
         ensures vars { self.new.held.vars ≡ self.old.held.vars }
-        ensures live { self.new.held.failed ≡ false }
+        ensures keeps { Keeps (P.view self.old.plant.now) self.old.held (P.view self.new.plant.now) self.new.held }
+        ensures live { IsLive (P.view self.new.plant.now) self.new.held }
         ensures effects { self.new.held.journal.effects ≡ self.old.held.journal.effects }
         ensures enough { OnOk result (effects ≤ self.new.held.journal.spare) }
         ensures kept { self.old.held.journal.spare ≤ self.new.held.journal.spare }
@@ -115,7 +126,7 @@ impl<'a, P: Plant> Board<'a, P> {
         requires range { IsRange (P.view self.old.plant.now) Disk lba (length out.old) }
         ensures same_reference { self.new.plant.ghost_name ≡ self.old.plant.ghost_name }
         ensures bytes { (P.view self.old.plant.now).tells → OnOk result
-            (out.new ≡ window ((P.view self.old.plant.now).reads Disk) (512 * lba) (length out.old)) }
+            (out.new ≡ window (disk_of (P.view self.old.plant.now) self.old.held) (512 * lba) (length out.old)) }
         ensures held { OnOk result (self.new.held ≡ self.old.held) }
         ensures failed { OnErr result (self.new.held ≡ record self.old.held { failed = true }) }
         ensures keeps { Keeps (P.view self.old.plant.now) self.old.held (P.view self.new.plant.now) self.new.held }
@@ -135,7 +146,7 @@ impl<'a, P: Plant> Board<'a, P> {
         requires live { IsLive (P.view self.old.plant.now) self.old.held }
         ensures same_reference { self.new.plant.ghost_name ≡ self.old.plant.ghost_name }
         ensures judged { (P.view self.old.plant.now).tells → IfOk result
-            (λ r. IsTrue r ↔ HoldsOnie ((P.view self.old.plant.now).reads Disk) self.old.held.table) }
+            (λ r. IsTrue r ↔ HoldsOnie (disk_of (P.view self.old.plant.now) self.old.held) self.old.held.table) }
         ensures held { OnOk result (self.new.held ≡ self.old.held) }
         ensures failed { OnErr result (self.new.held ≡ record self.old.held { failed = true }) }
         ensures keeps { Keeps (P.view self.old.plant.now) self.old.held (P.view self.new.plant.now) self.new.held }
@@ -151,15 +162,17 @@ impl<'a, P: Plant> Board<'a, P> {
         }
     }
 
-    /// The table.
+    /// The table of a board that has not failed.
     pub fn table(&self) -> &Table
+        requires live { self.now.held.failed ≡ false }
         ensures { result.now ≡ self.now.held.table }
     {
         &self.held.table
     }
 
-    /// The variables.
+    /// The variables of a board that has not failed.
     pub fn vars(&self) -> &BootVars
+        requires live { self.now.held.failed ≡ false }
         ensures { result.now ≡ self.now.held.vars }
     {
         &self.held.vars
@@ -172,8 +185,9 @@ impl<'a, P: Plant> Board<'a, P> {
         self.held.journal.as_slice()
     }
 
-    /// The number of sectors that the effects put, or 2^64 - 1 where they are more.
+    /// The number of sectors that the effects of a board put that has not failed, or 2^64 - 1 where they are more.
     pub fn sectors_put(&self) -> u64
+        requires live { self.now.held.failed ≡ false }
         ensures { result ≡ total_of self.now.held.journal.effects }
     {
         self.held.journal.sectors()

@@ -5,31 +5,22 @@ ghost use Rattle.bd_dev.specs.declared.plant.Area.TheVariants.{Disk};
 ghost use Rattle.bd_dev.specs.Faults.{HasCauseOr};
 ghost use Rattle.cuts.specs.declared.effect.Effect.TheVariants.{Put, Sync, Table as SetTable};
 ghost use Rattle.cuts.specs.Orderly.{IsLawfulTable};
-ghost use Rattle.board.specs.Changes.{Does, IsAnswer, put_refusal, touches_copies};
-ghost use Rattle.board.specs.Held.{IsLive, Keeps};
+ghost use Rattle.bd_dev.specs.Runs.{WritesAtMost};
+ghost use Rattle.board.specs.Changes.{Does, IsAnswer, put_refusal};
+ghost use Rattle.board.specs.Held.{IsLive, Keeps, Leaves};
 
 use crate::board::Board;
 use crate::fault::BoardFault;
-use bd_dev::{Area, Plant};
+use bd_dev::{Area, Plant, sync_area, write_sectors};
 use cuts::Effect;
 use gpt_copy::Table;
-use gpt_table::replace;
-use plant_runs::{sync_area, write_sectors};
+use gpt_table::{replace, touches_copy};
 
 /// Whether so many sectors from this address on pass the disk's end.
 fn passes_end(sectors: u64, lba: u64, count: u64) -> bool
     ensures { result ≡ nat_lt sectors (lba + count) }
 {
     lba > sectors || count > sectors - lba
-}
-
-/// Whether so many sectors, within a disk, touch a copy of the table.
-fn touches_table(sectors: u64, lba: u64, count: u64) -> bool
-    requires within { lba + count ≤ sectors }
-    requires room { 68 ≤ sectors }
-    ensures { result ≡ touches_copies sectors lba count }
-{
-    lba < 34 && 1 < lba + count || sectors - 33 < lba + count
 }
 
 impl<'a, P: Plant> Board<'a, P> {
@@ -46,6 +37,10 @@ impl<'a, P: Plant> Board<'a, P> {
         ensures same_reference { self.new.plant.ghost_name ≡ self.old.plant.ghost_name }
         ensures answer { IsAnswer (put_refusal ((P.view self.old.plant.now).size Disk) lba (length bytes.now / 512)) result }
         ensures effect { Does (Put lba bytes.now) (self.new.plant.now ≡ self.old.plant.now) result self.old.held self.new.held }
+        ensures leaves { Leaves (Put lba bytes.now) result (P.view self.old.plant.now) self.old.held
+            (P.view self.new.plant.now) self.new.held }
+        ensures wears { (P.view self.old.plant.now).tells
+            → WritesAtMost Disk (length bytes.now / 512) (P.view self.old.plant.now) (P.view self.new.plant.now) }
         ensures table { self.new.held.table ≡ self.old.held.table }
         ensures vars { self.new.held.vars ≡ self.old.held.vars }
         ensures spare { self.new.held.journal.spare ≡ self.old.held.journal.spare }
@@ -58,7 +53,7 @@ impl<'a, P: Plant> Board<'a, P> {
         if passes_end(sectors, lba, count) {
             return Err(BoardFault::Range);
         }
-        if touches_table(sectors, lba, count) {
+        if touches_copy(sectors, lba, count) {
             return Err(BoardFault::OnTable);
         }
         if let Err(_memory) = self.held.journal.note_put(self.alloc, lba, bytes) {
@@ -77,6 +72,10 @@ impl<'a, P: Plant> Board<'a, P> {
         ensures same_reference { self.new.plant.ghost_name ≡ self.old.plant.ghost_name }
         ensures answer { IsAnswer None result }
         ensures effect { Does Sync (self.new.plant.now ≡ self.old.plant.now) result self.old.held self.new.held }
+        ensures leaves { Leaves Sync result (P.view self.old.plant.now) self.old.held
+            (P.view self.new.plant.now) self.new.held }
+        ensures wears { (P.view self.old.plant.now).tells
+            → WritesAtMost Disk 0 (P.view self.old.plant.now) (P.view self.new.plant.now) }
         ensures table { self.new.held.table ≡ self.old.held.table }
         ensures vars { self.new.held.vars ≡ self.old.held.vars }
         ensures spare { OnOk result (self.new.held.journal.spare ≡ self.old.held.journal.spare - 1) }
@@ -103,6 +102,10 @@ impl<'a, P: Plant> Board<'a, P> {
         ensures same_reference { self.new.plant.ghost_name ≡ self.old.plant.ghost_name }
         ensures answer { IsAnswer None result }
         ensures effect { Does (SetTable table.now) (self.new.plant.now ≡ self.old.plant.now) result self.old.held self.new.held }
+        ensures leaves { Leaves (SetTable table.now) result (P.view self.old.plant.now) self.old.held
+            (P.view self.new.plant.now) self.new.held }
+        ensures wears { (P.view self.old.plant.now).tells
+            → WritesAtMost Disk 66 (P.view self.old.plant.now) (P.view self.new.plant.now) }
         ensures table { OnOk result (self.new.held.table ≡ table.now) }
         ensures vars { self.new.held.vars ≡ self.old.held.vars }
         ensures spare { OnOk result (self.new.held.journal.spare ≡ self.old.held.journal.spare - 1) }

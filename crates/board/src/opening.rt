@@ -1,15 +1,15 @@
 //! The opening of a board.
 
-ghost use Rattle.std.specs.Prelude.{◌≡◌, ◌≢◌, ◌⊎◌, ◌-◌, ℕ, Err, Some, IfOk, OnOk};
+ghost use Rattle.std.specs.Prelude.{◌≡◌, ◌≢◌, ◌⊎◌, ◌-◌, ℕ, Err, Some, None, IfOk, OnOk};
 ghost use Rattle.bd_dev.specs.declared.plant.Area.{Area};
 ghost use Rattle.bd_dev.specs.declared.plant.Area.TheVariants.{Disk, Flash};
 ghost use Rattle.bd_dev.specs.Faults.{HasCause, HasCauseOr};
 ghost use Rattle.bd_dev.specs.Plant.{IsImage, IsSynced};
-ghost use Rattle.cuts.specs.Copies.{AgreesOffTable, ReadsBoth};
-ghost use Rattle.cuts.specs.Spans.{Opens};
+ghost use Rattle.storage_model.specs.Copies.{AgreesOffTable, ReadsBoth, TouchesLesser, WritesNothing};
+ghost use Rattle.cuts.specs.Spans.{EndsSettled, Opens};
 ghost use Rattle.gpt_copy.specs.Copy.{FitsDisk};
 ghost use Rattle.gpt_copy.specs.declared.table.Table.{Table};
-ghost use Rattle.plant_runs.specs.Runs.{Continues, LeavesOnly, Looks, ReadsOnly};
+ghost use Rattle.bd_dev.specs.Runs.{Continues, LeavesOnly, Looks, ReadsOnly, WritesAtMost};
 ghost use Rattle.soundness.specs.declared.judging.SoundKind.{SoundKind};
 ghost use Rattle.soundness.specs.Judgement.{IsTableFault, IsUnsound, MayHold};
 ghost use Rattle.storage_model.specs.Disk.{table_of};
@@ -17,12 +17,12 @@ ghost use Rattle.storage_model.specs.Entries.{IsSane};
 ghost use Rattle.storage_model.specs.Soundness.{IsSoundTable};
 ghost use Rattle.board.specs.Opening.{IsReadOf, IsReady};
 
-use bd_dev::{Area, Failed, Plant};
+use bd_dev::{Area, Failed, Plant, sync_area};
 use boot_vars::BootVars;
 use gpt_copy::Table;
 use gpt_table::{GptFault, open};
-use plant_runs::sync_area;
 use soundness::{JudgeFault, SoundKind, judge_table, open_vars};
+use std::alloc::Global;
 use thiserror::Error;
 
 /// Why a board was not opened.
@@ -53,6 +53,7 @@ fn settle<P: Plant>(plant: &mut P) -> Result<(), Failed>
     ensures unsynced { (P.view plant.old).tells → (a : Area) (s : ℕ) → (P.view plant.new).unsynced a s → (P.view plant.old).unsynced a s }
     ensures crash { (P.view plant.old).tells → LeavesOnly (P.view plant.old) (P.view plant.new) (IsImage (P.view plant.old)) }
     ensures between { (P.view plant.old).tells → ReadsOnly (P.view plant.old) (P.view plant.new) (λ c. c ≡ (P.view plant.old).reads) }
+    ensures writes { (P.view plant.old).tells → (P.view plant.new).writes ≡ (P.view plant.old).writes }
     ensures disk { (P.view plant.old).tells → OnOk result (IsSynced (P.view plant.new) Disk) }
     ensures flash { (P.view plant.old).tells → OnOk result (IsSynced (P.view plant.new) Flash) }
     ensures cause { HasCause (P.view plant.old).faults (P.view plant.new).faults result }
@@ -96,29 +97,37 @@ fn test_opened<P: Plant>(
 }
 
 /// Readies a plant for a board: makes all durable that was written, opens the variables and the table, and tests
-/// whether the board is sound. Of the table's copies the lesser one is written where it is not readable or is another
-/// table; nothing else is written.
+/// whether the board is sound. Of the table's copies the lesser one, which the table is not read from, is written where
+/// it is not readable or is another table, at most 33 sectors. Nothing else is written: where both copies are one table,
+/// or neither is readable, nothing at all.
 ///
 /// A power cut at any moment leaves what it could have left before or, from some moment on, the table, the variables
 /// and all sectors as they read at the start.
 ///
-/// `NotSound` with the first test that fails, in the order of [`SoundKind`]: then, but for `NoTable`, both copies read
-/// as the table. `Fault` where the plant fails. It takes no memory.
-pub fn prepare<P: Plant>(plant: &mut P) -> Result<Opened, OpenFault>
+/// `NotSound` with the first test that fails, in the order of [`SoundKind`]: then nothing is unsynced and, but for
+/// `NoTable`, both copies read as the table. `Fault` where the plant fails. `Memory` where that is wanting for what is
+/// kept of the disk beside the plant, which is nothing yet.
+pub fn prepare<P: Plant>(_alloc: Global, plant: &mut P) -> Result<Opened, OpenFault>
     ensures continues { Continues (P.view plant.old) (P.view plant.new) }
     ensures opens { (P.view plant.old).tells → Opens (P.view plant.old) (P.view plant.new) }
+    ensures settled { (P.view plant.old).tells → result ≢ Err OpenFault.Fault → EndsSettled (P.view plant.old) (P.view plant.new) }
     ensures ready { IfOk result (IsReady (P.view plant.new)) }
     ensures read { (P.view plant.old).tells → IfOk result (IsReadOf (P.view plant.old)) }
     ensures kept { (P.view plant.old).tells
         → AgreesOffTable ((P.view plant.old).size Disk) (P.view plant.old).reads (P.view plant.new).reads }
+    ensures lesser { (P.view plant.old).tells → TouchesLesser (P.view plant.old) (P.view plant.new) }
+    ensures unwritten { (P.view plant.old).tells
+        → table_of ((P.view plant.old).size Disk) ((P.view plant.old).reads Disk) ≡ None → WritesNothing (P.view plant.old) (P.view plant.new) }
+    ensures agreeing { (P.view plant.old).tells → (t : Table)
+        → ReadsBoth ((P.view plant.old).size Disk) ((P.view plant.old).reads Disk) t → WritesNothing (P.view plant.old) (P.view plant.new) }
+    ensures wears { (P.view plant.old).tells → WritesAtMost Disk 33 (P.view plant.old) (P.view plant.new) }
     ensures unsound { (kind : SoundKind) → (P.view plant.old).tells → result ≡ Err (OpenFault.NotSound kind)
         → IsUnsound (P.view plant.old).size (P.view plant.old).reads kind }
     ensures exact { (kind : SoundKind) → (P.view plant.old).tells → IsUnsound (P.view plant.old).size (P.view plant.old).reads kind
-        → (result ≡ Err (OpenFault.NotSound kind)) ⊎ (result ≡ Err OpenFault.Fault) }
+        → (result ≡ Err (OpenFault.NotSound kind)) ⊎ ((result ≡ Err OpenFault.Fault) ⊎ (result ≡ Err OpenFault.Memory)) }
     ensures repaired { (kind : SoundKind) (t : Table) → (P.view plant.old).tells → result ≡ Err (OpenFault.NotSound kind)
         → table_of ((P.view plant.old).size Disk) ((P.view plant.old).reads Disk) ≡ Some t
         → ReadsBoth ((P.view plant.old).size Disk) ((P.view plant.new).reads Disk) t }
-    ensures no_memory { result ≢ Err OpenFault.Memory }
     ensures cause { HasCauseOr OpenFault.Fault (P.view plant.old).faults (P.view plant.new).faults result }
 {
     if let Err(_failed) = settle(plant) {

@@ -442,10 +442,13 @@ fn each_power_cut_leaves_a_sound_board(rt: HostRuntime) -> Result<(), Fail> {
 /// Sets and unsets variables, the last of which is not there.
 fn three_changes<P: Plant>(board: &mut Board<P>) -> Result<(), BoardFault>
     requires live { IsLive (P.view board.old.plant.now) board.old.held }
+    ensures same_reference { board.new.plant.ghost_name ≡ board.old.plant.ghost_name }
+    ensures live { OnOk result (IsLive (P.view board.new.plant.now) board.new.held) }
 {
     make(board, Change::Set(b"nos_bootcmd", b"boot x"))?;
     make(board, Change::Unset(b"onie_boot_reason"))?;
-    make(board, Change::Unset(b"absent"))
+    make(board, Change::Unset(b"absent"))?;
+    Ok(())
 }
 
 /// Opens the board and makes these changes. Answers how many effects were noted, with the text at the end.
@@ -454,13 +457,13 @@ fn make_three(alloc: Global, plant: &mut SimPlant) -> Result<(usize, Vec<u8>), F
         Ok(board) => board,
         Err(_) => return Err(Fail::new("not opened")),
     };
-    if let Err(_) = three_changes(&mut board) {
-        return Err(Fail::new("not changed"));
+    match three_changes(&mut board) {
+        Ok(()) => Ok((
+            board.journal().len(),
+            Vec::from_slice(alloc, board.vars().text())?,
+        )),
+        Err(_) => Err(Fail::new("not changed")),
     }
-    Ok((
-        board.journal().len(),
-        Vec::from_slice(alloc, board.vars().text())?,
-    ))
 }
 
 #[test]

@@ -6,7 +6,7 @@ ghost use Rattle.boot_vars.specs.Setting.{changed, put_refusal, set_refusal, uns
 ghost use Rattle.boot_vars.specs.Vars.{AreVars};
 ghost use Rattle.cuts.specs.declared.effect.Effect.TheVariants.{Vars as SetVars};
 ghost use Rattle.board.specs.Changes.{Does, IsAnswer, Nothing, of_var_refusal};
-ghost use Rattle.board.specs.Held.{IsLive, Keeps};
+ghost use Rattle.board.specs.Held.{IsLive, Keeps, Leaves};
 ghost use Rattle.storage_model.specs.Variables.{Spells, Variable, is_name, lines_of, value_among};
 
 use crate::board::Board;
@@ -26,6 +26,9 @@ impl<'a, P: Plant> Board<'a, P> {
             → IsAnswer (of_var_refusal (set_refusal vs self.old.held.vars.pair.number (record { name = name.now; value = value.now }))) result }
         ensures effect { (vs : List Variable) → Spells self.old.held.vars.text vs
             → Does (SetVars (lines_of (with_variable vs (record { name = name.now; value = value.now })))) (self.new.plant.now ≡ self.old.plant.now) result self.old.held self.new.held }
+        ensures leaves { (vs : List Variable) → Spells self.old.held.vars.text vs
+            → Leaves (SetVars (lines_of (with_variable vs (record { name = name.now; value = value.now })))) result
+            (P.view self.old.plant.now) self.old.held (P.view self.new.plant.now) self.new.held }
         ensures vars { (vs : List Variable) → Spells self.old.held.vars.text vs → OnOk result
             (self.new.held.vars ≡ changed self.old.held.vars (lines_of (with_variable vs (record { name = name.now; value = value.now })))) }
         ensures table { self.new.held.table ≡ self.old.held.table }
@@ -55,6 +58,9 @@ impl<'a, P: Plant> Board<'a, P> {
             → IsTrue (is_name name.now) → IsOk result }
         ensures effect { (vs : List Variable) → Spells self.old.held.vars.text vs → IsSome (value_among vs name.now)
             → Does (SetVars (lines_of (without vs name.now))) (self.new.plant.now ≡ self.old.plant.now) result self.old.held self.new.held }
+        ensures leaves { (vs : List Variable) → Spells self.old.held.vars.text vs → IsSome (value_among vs name.now)
+            → Leaves (SetVars (lines_of (without vs name.now))) result
+            (P.view self.old.plant.now) self.old.held (P.view self.new.plant.now) self.new.held }
         ensures vars { (vs : List Variable) → Spells self.old.held.vars.text vs → IsSome (value_among vs name.now) → OnOk result
             (self.new.held.vars ≡ changed self.old.held.vars (lines_of (without vs name.now))) }
         ensures table { self.new.held.table ≡ self.old.held.table }
@@ -81,6 +87,8 @@ impl<'a, P: Plant> Board<'a, P> {
         ensures same_reference { self.new.plant.ghost_name ≡ self.old.plant.ghost_name }
         ensures answer { IsAnswer None result }
         ensures effect { Does (SetVars (take length text.now)) (self.new.plant.now ≡ self.old.plant.now) result self.old.held self.new.held }
+        ensures leaves { Leaves (SetVars (take length text.now)) result
+            (P.view self.old.plant.now) self.old.held (P.view self.new.plant.now) self.new.held }
         ensures vars { OnOk result (self.new.held.vars ≡ changed self.old.held.vars (take length text.now)) }
         ensures table { self.new.held.table ≡ self.old.held.table }
         ensures spare { OnOk result (self.new.held.journal.spare ≡ self.old.held.journal.spare - 1) }

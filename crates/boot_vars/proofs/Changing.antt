@@ -1,20 +1,20 @@
 -- What a change of the variables leaves.
-use Rattle.std.proofs.Common.{◌≡◌, inl, inr, ⊎_elim, ℕ, ◌+◌, ◌<◌, ◌≤◌, List, length, Bool, false, not, cond, nat_lt, None, sym, ◌∙◌, ap, subst, arith}
+use Rattle.std.proofs.Common.{◌≡◌, inl, inr, ⊎_elim, ℕ, ◌+◌, ◌<◌, ◌≤◌, List, length, Bool, false, not, cond, nat_lt, None, refl, sym, ◌∙◌, ap, subst, arith}
 use Rattle.std.proofs.lemmas.Bool.{le-ltb}
 use Rattle.bd_dev.specs.declared.plant.Area.{Area}
 use Rattle.bd_dev.specs.declared.plant.Area.TheVariants.{Flash}
 use Rattle.bd_dev.specs.Content.{Image, SameSector}
 use Rattle.bd_dev.specs.Plant.{View, IsHonest, IsSynced}
-use Rattle.plant_runs.proofs.Joins.{leaves_now}
-use Rattle.plant_runs.proofs.Touch.{leaves_weaker, touch_now}
-use Rattle.plant_runs.specs.Touching.{Touches}
+use Rattle.bd_dev.proofs.Joins.{leaves_now, writes_none}
+use Rattle.bd_dev.proofs.Touch.{leaves_weaker, touch_now}
+use Rattle.bd_dev.specs.Touching.{Touches}
 use Rattle.slot_pair.proofs.Frames.{slot_frame}
 use Rattle.slot_pair.specs.Body.{used_sectors}
 use Rattle.slot_pair.specs.Pair.{Pair}
 use Rattle.slot_pair.specs.Putting.{Puts}
-use Rattle.storage_model.specs.Slots.{current, newer, slot_lba}
+use Rattle.slot_model.specs.Slots.{current, newer, slot_lba}
 use Rattle.storage_model.specs.Variables.{kept_in}
-use Rattle.boot_vars.specs.Setting.{Changes}
+use Rattle.boot_vars.specs.Setting.{Changes, WearsFor}
 use Rattle.boot_vars.specs.Vars.{FitsVars, Vars}
 
 -- a flash with room for the variables keeps those of its pair
@@ -57,3 +57,6 @@ changes_now v vars text honest synced = record {
   few = touch_now Flash _ _ v honest;
   crash = λ tells. leaves_now v _ honest tells (λ c image. inl (kept_frame (v.size Flash) (v.reads Flash) (c Flash) (λ s lt. image Flash s (synced tells s))));
 }
+
+pub wears_now : (v : View) (text : List ℕ) → WearsFor text v v
+wears_now v text = record { written = λ tells. writes_none Flash (used_sectors (length text) + 2) v v refl }

@@ -3,11 +3,11 @@ use Rattle.std.proofs.Common.{◌≡◌, Bool, false, cond, nat_lt, Some, None, 
 use Rattle.std.proofs.lemmas.Bool.{le-ltb}
 use Rattle.bd_dev.specs.declared.plant.Area.TheVariants.{Flash}
 use Rattle.bd_dev.specs.Plant.{View}
-use Rattle.plant_runs.specs.Runs.{Looks}
+use Rattle.bd_dev.specs.Runs.{Looks}
 use Rattle.slot_pair.proofs.Pairs.{fits_then}
 use Rattle.boot_vars.specs.Vars.{FitsVars, Vars}
 use Rattle.slot_pair.specs.Pair.{Fits, Pair}
-use Rattle.storage_model.specs.Slots.{Stored, current}
+use Rattle.slot_model.specs.Slots.{Stored, current}
 use Rattle.storage_model.specs.Variables.{kept_in}
 
 pub kept : (old mid : View) (pair : Pair) (s : Stored) → Looks old mid → old.tells → Fits 16 mid pair → pair.area ≡ Flash → pair.base ≡ 0

@@ -3,17 +3,21 @@ use Rattle.std.specs.Prelude.{◌≡◌, ◌⊎◌, ℕ, ◌+◌, ◌-◌, ◌^�
 use Rattle.std.specs.Str.{bytes_eq}
 use Rattle.bd_dev.specs.declared.plant.Area.TheVariants.{Flash}
 use Rattle.bd_dev.specs.Plant.{View, IsSynced}
-use Rattle.plant_runs.specs.Runs.{LeavesOnly}
-use Rattle.plant_runs.specs.Touching.{Touches}
+use Rattle.bd_dev.specs.Runs.{LeavesOnly, WritesAtMost}
+use Rattle.bd_dev.specs.Touching.{Touches}
 use Rattle.slot_pair.specs.declared.fault.PutFault.{PutFault}
 use Rattle.slot_pair.specs.declared.fault.PutFault.TheVariants as put_faults
 use Rattle.slot_pair.specs.Body.{used_sectors}
 use Rattle.slot_pair.specs.Putting.{IsEither, stored, turned}
-use Rattle.storage_model.specs.Slots.{pair_sectors, slot_lba}
+use Rattle.slot_model.specs.Slots.{pair_sectors, slot_lba}
 use Rattle.storage_model.specs.Variables.{Variable, kept_in, variables_sectors, is_name, is_value, lines_of, value_among}
 use Rattle.boot_vars.specs.declared.fault.VarFault.{VarFault}
 use Rattle.boot_vars.specs.declared.fault.VarFault.TheVariants.{BadName, BadText, Fault, SeqEnd, VarsFull}
 use Rattle.boot_vars.specs.Vars.{FitsVars, Vars}
+
+-- the variable of this name and this value
+abbrev pub given : List ℕ → List ℕ → Variable
+given name value = record { name = name; value = value }
 
 -- the variables with this one: in the place of the one of its name, or behind all others
 unfoldable pub with_variable : List Variable → Variable → List Variable
@@ -70,6 +74,11 @@ pub record Changes (vars : Vars) (text : List ℕ) (old new : View) : Type 0 whe
   pub touches : Touches Flash 0 (pair_sectors variables_sectors) old new
   pub few : Touches Flash (slot_lba variables_sectors 0 (not vars.pair.second)) (used_sectors (length text) + 1) old new
   pub crash : old.tells → LeavesOnly old new (λ c. IsEither (kept_in (old.size Flash) (old.reads Flash)) (stored (vars.pair.number + 1) text) (kept_in (old.size Flash) (c Flash)))
+
+-- A change to this text writes at most as many sectors of the flash as its body fills, and two of gates, and none of
+-- the disk.
+pub record WearsFor (text : List ℕ) (old new : View) : Type 0 where
+  pub written : old.tells → WritesAtMost Flash (used_sectors (length text) + 2) old new
 
 -- the variables after a change
 abbrev pub changed : Vars → List ℕ → Vars

@@ -6,12 +6,12 @@ ghost use Rattle.bd_dev.specs.declared.plant.Area.TheVariants.{Flash};
 ghost use Rattle.bd_dev.specs.Faults.{HasCauseOr};
 ghost use Rattle.bd_dev.specs.Plant.{IsSynced};
 ghost use Rattle.bd_text.specs.declared.guid.Guid.{Guid};
-ghost use Rattle.boot_vars.specs.Setting.{Changes, IsAnswer, IsDurable, answer, changed, put_refusal, set_refusal, unset_refusal, with_variable, without};
+ghost use Rattle.boot_vars.specs.Setting.{Changes, IsAnswer, IsDurable, WearsFor, answer, changed, given, put_refusal, set_refusal, unset_refusal, with_variable, without};
 ghost use Rattle.boot_vars.specs.Vars.{AreVars, FitsVars};
 ghost use Rattle.boot_vars.specs.declared.fault.VarFault.TheVariants as var_faults;
 ghost use Rattle.boot_vars.specs.declared.fault.VarsFault.TheVariants.{BadLine, Fault, NoSlot};
-ghost use Rattle.plant_runs.specs.Runs.{Looks};
-ghost use Rattle.storage_model.specs.Slots.{Stored};
+ghost use Rattle.bd_dev.specs.Runs.{Looks};
+ghost use Rattle.slot_model.specs.Slots.{Stored};
 ghost use Rattle.storage_model.specs.Variables.{HoldsVariables, IsBadLine, IsText, Names, Spells, Variable, is_name, kept_in, lines_of, mode_in, value_among, value_of};
 
 use crate::fault::{VarFault, VarsFault};
@@ -119,7 +119,7 @@ impl BootVars {
     pub fn may_set(&self, name: &[u8], value: &[u8]) -> Result<(), VarFault>
         ensures never { result ≢ Err var_faults.Fault }
         ensures answer { (vs : List Variable) → Spells self.now.text vs
-            → result ≡ answer (set_refusal vs self.now.pair.number (record { name = name.now; value = value.now })) }
+            → result ≡ answer (set_refusal vs self.now.pair.number (given name.now value.now)) }
     {
         if !is_name(name) {
             return Err(VarFault::BadName);
@@ -147,10 +147,10 @@ impl BootVars {
         out: &mut [u8; 8192],
     ) -> Result<usize, VarFault>
         ensures refusal { (vs : List Variable) → Spells self.now.text vs
-            → result_err result ≡ set_refusal vs self.now.pair.number (record { name = name.now; value = value.now }) }
+            → result_err result ≡ set_refusal vs self.now.pair.number (given name.now value.now) }
         ensures never { result ≢ Err var_faults.Fault }
         ensures lines { (vs : List Variable) → Spells self.now.text vs → IfOk result
-            (λ size. take size out.new ≡ lines_of (with_variable vs (record { name = name.now; value = value.now }))) }
+            (λ size. take size out.new ≡ lines_of (with_variable vs (given name.now value.now))) }
         ensures vars { IfOk result (λ size. AreVars size (take size out.new)) }
         ensures number { OnOk result (put_refusal self.now.pair.number ≡ None) }
     {
@@ -212,15 +212,19 @@ impl BootVars {
         requires fits { FitsVars (P.view plant.old) self.old }
         requires synced { (P.view plant.old).tells → IsSynced (P.view plant.old) Flash }
         ensures answer { (vs : List Variable) → Spells self.old.text vs
-            → IsAnswer (set_refusal vs self.old.pair.number (record { name = name.now; value = value.now })) result }
+            → IsAnswer (set_refusal vs self.old.pair.number (given name.now value.now)) result }
         ensures refused { (vs : List Variable) → Spells self.old.text vs
-            → IsSome (set_refusal vs self.old.pair.number (record { name = name.now; value = value.now })) → plant.new ≡ plant.old }
+            → IsSome (set_refusal vs self.old.pair.number (given name.now value.now)) → plant.new ≡ plant.old }
         ensures kept { OnErr result (self.new ≡ self.old) }
         ensures set { (vs : List Variable) → Spells self.old.text vs → OnOk result
-            (self.new ≡ changed self.old (lines_of (with_variable vs (record { name = name.now; value = value.now })))) }
+            (self.new ≡ changed self.old (lines_of (with_variable vs (given name.now value.now)))) }
         ensures durable { OnOk result (IsDurable (P.view plant.new) self.new) }
         ensures changes { (vs : List Variable) → Spells self.old.text vs
-            → Changes self.old (lines_of (with_variable vs (record { name = name.now; value = value.now }))) (P.view plant.old) (P.view plant.new) }
+            → Changes self.old (lines_of (with_variable vs (given name.now value.now)))
+            (P.view plant.old) (P.view plant.new) }
+        ensures wears { (vs : List Variable) → Spells self.old.text vs
+            → WearsFor (lines_of (with_variable vs (given name.now value.now)))
+            (P.view plant.old) (P.view plant.new) }
         ensures cause { HasCauseOr var_faults.Fault (P.view plant.old).faults (P.view plant.new).faults result }
     {
         let mut text = [0; 8192];
@@ -252,6 +256,8 @@ impl BootVars {
         ensures durable { OnOk result (IsDurable (P.view plant.new) self.new) }
         ensures changes { (vs : List Variable) → Spells self.old.text vs
             → Changes self.old (lines_of (without vs name.now)) (P.view plant.old) (P.view plant.new) }
+        ensures wears { (vs : List Variable) → Spells self.old.text vs
+            → WearsFor (lines_of (without vs name.now)) (P.view plant.old) (P.view plant.new) }
         ensures cause { HasCauseOr var_faults.Fault (P.view plant.old).faults (P.view plant.new).faults result }
     {
         let mut text = [0; 8192];
@@ -282,6 +288,7 @@ impl BootVars {
         ensures set { OnOk result (self.new ≡ changed self.old (take length text.now)) }
         ensures durable { OnOk result (IsDurable (P.view plant.new) self.new) }
         ensures changes { Changes self.old (take length text.now) (P.view plant.old) (P.view plant.new) }
+        ensures wears { WearsFor (take length text.now) (P.view plant.old) (P.view plant.new) }
         ensures cause { HasCauseOr var_faults.Fault (P.view plant.old).faults (P.view plant.new).faults result }
     {
         self.pair.put(plant, &text[..length])?;

@@ -29,10 +29,10 @@ sound_off size z t fits sound = record {
       (entry_off size t sound.index sound.onie fits sound.sane sound.one.has.has sound.onie.first (first_inside z t sound)).off) sound.image;
 }
 
-pub board_starts : (v : Value) → Stands v → IsSoundTable (v.view.reads Disk) v.table → IsText v.text → KeepsOffBoth (pending_of v) (state_of v) → IsStart v.view.size (state_of v) (pending_of v)
+pub board_starts : (v : Value) → Stands v → IsSoundTable v.disk v.table → IsText v.text → KeepsOffBoth (pending_of v) (state_of v) → IsStart v.view.size (state_of v) (pending_of v)
 board_starts v stands sound text off =
     let fits = copy_fits Primary (v.view.size Disk) (v.view.reads Disk) v.table stands.table.primary in
-    record { fits = fits; sound = sound_off (v.view.size Disk) (v.view.reads Disk) v.table fits sound; text = text; off = off }
+    record { fits = fits; sound = sound_off (v.view.size Disk) v.disk v.table fits sound; text = text; off = off }
 
 pub image_starts : (size : Area → ℕ) (c : Image) (sound : IsSoundBoard size c) → IsStart size (state_in size c sound) nothing
 image_starts size c sound =

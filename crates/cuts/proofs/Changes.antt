@@ -4,17 +4,19 @@ use Rattle.bd_dev.specs.declared.plant.Area.TheVariants.{Disk, Flash}
 use Rattle.bd_dev.specs.Content.{Image, SameSector}
 use Rattle.bd_dev.specs.Plant.{IsHonest, IsImage, IsSynced}
 use Rattle.gpt_copy.specs.declared.table.Table.{Table}
-use Rattle.plant_runs.specs.Runs.{LeavesOnly, ReadsOnly}
-use Rattle.plant_runs.specs.Touching.{KeepsSynced, Touches}
-use Rattle.plant_runs.proofs.Touch.{leaves_both, leaves_weaker, reads_both, reads_of, reads_weaker}
-use Rattle.storage_model.specs.Slots.{Stored}
+use Rattle.bd_dev.specs.Runs.{LeavesOnly, ReadsOnly}
+use Rattle.bd_dev.specs.Touching.{KeepsSynced, Touches}
+use Rattle.bd_dev.proofs.Touch.{leaves_both, leaves_weaker, reads_both, reads_of, reads_weaker}
+use Rattle.slot_model.specs.Slots.{Stored}
 use Rattle.storage_model.specs.Variables.{kept_in}
-use Rattle.cuts.specs.Copies.{IsCleanBetween, IsEitherTable, KeepsOffTable, OffCopies, ReadsBoth, TouchesCopies}
+use Rattle.storage_model.specs.Copies.{IsCleanBetween, IsEitherTable, KeepsOffTable, OffCopies, ReadsBoth, TouchesCopies}
 use Rattle.cuts.specs.declared.effect.Effect.TheVariants.{Table as SetTable, Vars as SetVars}
 use Rattle.cuts.specs.States.{after, off_copies}
 use Rattle.cuts.specs.Cuts.{HasVariables, MayBeCut, MayBeCutAt, stored_of}
-use Rattle.cuts.specs.Spans.{HasOnlyPending, IsReached, Spans, Stands, Value, pending_of, state_of}
-use Rattle.cuts.proofs.Joins.{pending_more, span_of}
+use Rattle.cuts.specs.Orderly.{IsLawfulTable, IsLawfulText}
+use Rattle.cuts.specs.Spans.{HasOnlyPending, IsHeld, IsReached, Spans, Stands, Value, pending_of, state_of}
+use Rattle.bd_dev.proofs.Joins.{same_sector_trans}
+use Rattle.cuts.proofs.Joins.{pending_more, pending_then, span_of}
 use Rattle.cuts.proofs.Reading.{image_off, same_off}
 use Rattle.cuts.proofs.Steady.{IsSteady, clean_of, steady_now, whole_area}
 
@@ -23,6 +25,8 @@ pub record HasTableSet (v w : Value) (t : Table) : Type 0 where
   pub table : w.table ≡ t
   pub synced : IsSynced w.view Disk
   pub reads : ReadsBoth (v.view.size Disk) (w.view.reads Disk) t
+  pub disk : (q : ℕ) → OffCopies (v.view.size Disk) q → SameSector v.disk w.disk q
+  pub held : IsHeld w
 
 -- the variables under the next number
 abbrev pub next_kept : Value → List ℕ → Stored
@@ -34,6 +38,8 @@ pub record HasVariablesSet (v w : Value) (new : List ℕ) : Type 0 where
   pub number : w.number ≡ v.number + 1
   pub synced : IsSynced w.view Flash
   pub reads : kept_in (v.view.size Flash) (w.view.reads Flash) ≡ Some (next_kept v new)
+  pub disk : (q : ℕ) → OffCopies (v.view.size Disk) q → SameSector v.disk w.disk q
+  pub held : IsHeld w
 
 -- the flash holds the variables that a board reads, or these under the next number
 abbrev pub IsEitherKept : Value → List ℕ → Image → Type 0
@@ -46,7 +52,7 @@ mixed z c Flash = z Flash
 
 module _ (v w : Value) (honest : IsHonest w.view) (tells : v.view.tells) (stands : Stands v) (only : HasOnlyPending v) where
   -- the table was set, or that failed
-  module _ (t : Table) (touches : TouchesCopies v.view w.view) (crash : LeavesOnly v.view w.view (λ c. IsCleanBetween (v.view.size Disk) v.table t c → IsEitherTable (v.view.size Disk) v.table t c))
+  module _ (t : Table) (lawful : IsLawfulTable v.table t) (touches : TouchesCopies v.view w.view) (crash : LeavesOnly v.view w.view (λ c. IsCleanBetween (v.view.size Disk) v.table t c → IsEitherTable (v.view.size Disk) v.table t c))
       (between : ReadsOnly v.view w.view (IsCleanBetween (v.view.size Disk) v.table t)) (text : w.text ≡ v.text) (number : w.number ≡ v.number) (journal : w.journal ≡ v.journal ++ SetTable t ∷ []) where
     flash_is : (c : Image) → KeepsOffTable v.view c → kept_in (v.view.size Flash) (c Flash) ≡ Some (stored_of (state_of v))
     flash_is c keeps = ap (λ (z : ℕ → ℕ). kept_in (v.view.size Flash) z)
@@ -56,7 +62,8 @@ module _ (v w : Value) (honest : IsHonest w.view) (tells : v.view.tells) (stands
     in_table c either keeps = record {
       table = either;
       variables = flash_is c keeps;
-      sectors = λ q lt off pends runs. image_off (v.view.size Disk) (v.view.reads Disk) (c Disk) q off (keeps Disk q (λ is. off) (λ un. pends (only.disk q un)));
+      sectors = λ q lt off pends runs. image_off (v.view.size Disk) v.disk (c Disk) q off
+          (same_sector_trans v.disk (v.view.reads Disk) (c Disk) q (only.held q pends) (keeps Disk q (λ is. off) (λ un. pends (only.disk q un))));
     }
 
     both : LeavesOnly v.view w.view (λ c. (IsCleanBetween (v.view.size Disk) v.table t c → IsEitherTable (v.view.size Disk) v.table t c) × KeepsOffTable v.view c)
@@ -72,8 +79,10 @@ module _ (v w : Value) (honest : IsHonest w.view) (tells : v.view.tells) (stands
     table_ends done c image = record {
       table = subst (λ (z : ℕ → ℕ). ReadsBoth (v.view.size Disk) z t) (sym disk_is) done.reads;
       variables = flash_is c (now_is c image).1;
-      sectors = λ q lt off pends runs. image_off (v.view.size Disk) (v.view.reads Disk) (c Disk) q off
-          (subst (λ (z : ℕ → ℕ). SameSector (v.view.reads Disk) z q) (sym disk_is) ((touches.told tells).reads Disk q (λ is. off)));
+      sectors = λ q lt off pends runs. image_off (v.view.size Disk) v.disk (c Disk) q off
+          (subst (λ (z : ℕ → ℕ). SameSector v.disk z q) (sym disk_is)
+          (same_sector_trans v.disk w.disk (w.view.reads Disk) q (done.disk q off)
+          (done.held q (λ pending_now. subst (λ (P : ℕ → Type 0). P q) (pending_then v w (SetTable t ∷ []) journal) pending_now))));
     }
       where
         disk_is : c Disk ≡ w.view.reads Disk
@@ -82,9 +91,8 @@ module _ (v w : Value) (honest : IsHonest w.view) (tells : v.view.tells) (stands
     table_state : HasTableSet v w t → state_of w ≡ after (state_of v) (SetTable t ∷ [])
     table_state done = λ i. record { table = done.table i; text = text i; number = number i; disk = disk i }
       where
-        disk : off_copies (w.view.size Disk) (w.view.reads Disk) ≡ off_copies (v.view.size Disk) (v.view.reads Disk)
-        disk = ap (λ (n : ℕ). off_copies n (w.view.reads Disk)) (touches.continues.size Disk)
-            ∙ same_off (v.view.size Disk) (v.view.reads Disk) (w.view.reads Disk) (λ q off. (touches.told tells).reads Disk q (λ is. off))
+        disk : off_copies (w.view.size Disk) w.disk ≡ off_copies (v.view.size Disk) v.disk
+        disk = ap (λ (n : ℕ). off_copies n w.disk) (touches.continues.size Disk) ∙ same_off (v.view.size Disk) v.disk w.disk done.disk
 
     table_stands : HasTableSet v w t → Stands w
     table_stands done = record {
@@ -100,6 +108,7 @@ module _ (v w : Value) (honest : IsHonest w.view) (tells : v.view.tells) (stands
       journal = journal;
       still_tells = touches.continues.still_tells;
       size = touches.continues.size;
+      lawful = (lawful, tt);
       state = λ live. table_state (done live);
       stands = λ live. table_stands (done live);
       crash = leaves_weaker v.view w.view _ _ both (λ c two. (0, omega arith, in_table c two.0 two.1));
@@ -119,10 +128,11 @@ module _ (v w : Value) (honest : IsHonest w.view) (tells : v.view.tells) (stands
       disk = λ q un. absurd (done.synced q un);
       copies = λ q un. absurd (done.synced q un);
       flash = λ s un. only.flash s ((touches.told tells).unsynced Flash s (λ other. cc) un);
+      held = done.held;
     }
 
   -- the variables were set, or that failed
-  module _ (text : List ℕ) (touches : Touches Flash 0 34 v.view w.view) (crash : LeavesOnly v.view w.view (λ c. IsEitherKept v text c)) (table : w.table ≡ v.table) (journal : w.journal ≡ v.journal ++ SetVars text ∷ []) where
+  module _ (text : List ℕ) (lawful : IsLawfulText v.number text) (touches : Touches Flash 0 34 v.view w.view) (crash : LeavesOnly v.view w.view (λ c. IsEitherKept v text c)) (table : w.table ≡ v.table) (journal : w.journal ≡ v.journal ++ SetVars text ∷ []) where
     disk_steady : (c : Image) → KeepsSynced Flash 0 34 v.view c → IsSteady v (λ q. ⊥) (mixed v.view.reads c)
     disk_steady c keeps = steady_now v stands only (mixed v.view.reads c) image
       where
@@ -159,9 +169,8 @@ module _ (v w : Value) (honest : IsHonest w.view) (tells : v.view.tells) (stands
     vars_state : HasVariablesSet v w text → state_of w ≡ after (state_of v) (SetVars text ∷ [])
     vars_state done = λ i. record { table = table i; text = done.text i; number = done.number i; disk = disk i }
       where
-        disk : off_copies (w.view.size Disk) (w.view.reads Disk) ≡ off_copies (v.view.size Disk) (v.view.reads Disk)
-        disk = ap (λ (n : ℕ). off_copies n (w.view.reads Disk)) (touches.continues.size Disk)
-            ∙ same_off (v.view.size Disk) (v.view.reads Disk) (w.view.reads Disk) (λ q off. (touches.told tells).reads Disk q (λ other. cc))
+        disk : off_copies (w.view.size Disk) w.disk ≡ off_copies (v.view.size Disk) v.disk
+        disk = ap (λ (n : ℕ). off_copies n w.disk) (touches.continues.size Disk) ∙ same_off (v.view.size Disk) v.disk w.disk done.disk
 
     vars_stands : HasVariablesSet v w text → Stands w
     vars_stands done = record {
@@ -171,7 +180,7 @@ module _ (v w : Value) (honest : IsHonest w.view) (tells : v.view.tells) (stands
 
     vars_span : (n : ℕ) → (w.failed ≡ false → HasVariablesSet v w text) → IsReached w.failed n (SetVars text ∷ [])
         → ((c : Image) → IsImage w.view c → MayBeCut v.view.size (state_of v) (pending_of v) (SetVars text ∷ []) n c) → Spans v w
-    vars_span n done is now = span_of v w (SetVars text ∷ []) n honest (touches.continues.still_tells tells) touches.continues.still_tells touches.continues.size journal
+    vars_span n done is now = span_of v w (SetVars text ∷ []) n honest (touches.continues.still_tells tells) touches.continues.still_tells touches.continues.size journal (lawful, tt)
         (λ live. vars_state (done live)) (λ live. vars_stands (done live))
         (leaves_weaker v.view w.view _ _ vars_both (λ c two. (0, omega arith, in_vars c two.0 two.1, clean_of (v.view.size Disk) (c Disk) v.table (disk_steady c two.0).copies)))
         is now
@@ -185,6 +194,7 @@ module _ (v w : Value) (honest : IsHonest w.view) (tells : v.view.tells) (stands
       disk = λ q un. pending_more v w (SetVars text) journal q (only.disk q (was q un));
       copies = λ q un. subst (λ (n : ℕ). OffCopies n q) (sym (touches.continues.size Disk)) (only.copies q (was q un));
       flash = done.synced;
+      held = done.held;
     }
       where
         was : (q : ℕ) → w.view.unsynced Disk q → v.view.unsynced Disk q

@@ -11,7 +11,7 @@ use Rattle.gpt_copy.specs.Copy.{FitsDisk, entry_bytes, header_of, is_readable, r
 use Rattle.gpt_copy.specs.Header.{has_checksums, has_form, has_layout, has_parts, has_usable}
 use Rattle.gpt_copy.specs.Rows.{number_at}
 use Rattle.storage_model.specs.Disk.{Found, copy_bytes, copy_lba, copy_of, found, found_in, or_else, table_of}
-use Rattle.cuts.specs.Copies.{OffCopies, ReadsBoth}
+use Rattle.storage_model.specs.Copies.{OffCopies, ReadsBoth}
 
 left : (a b : Bool) → (a && b) ≡ true → a ≡ true
 left true b is = refl

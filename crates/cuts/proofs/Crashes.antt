@@ -33,10 +33,10 @@ some_boots size s U xs start lawful orderly c some = (
       (plain size (after s (take some.0 xs)) (pending U (take some.0 xs)) (slice_get xs some.0) c some.2 clean),
 )
 
-module _ (a b : Value) (span : Spans a b) (start : IsStart a.view.size (state_of a) (pending_of a)) (lawful : AreLawful (a.view.size Disk) (state_of a) span.effects) (orderly : AreOrderly (state_of a) (pending_of a) span.effects) where
+module _ (a b : Value) (span : Spans a b) (start : IsStart a.view.size (state_of a) (pending_of a)) (orderly : AreOrderly (state_of a) (pending_of a) span.effects) where
   -- what a crash within the span left, or leaves at its end, boots where it is clean
   pub crash_boots : (c : Image) → b.view.left_since a.view.moment c → BootsIfClean a.view.size (state_of a) span.effects c
-  crash_boots c left = some_boots a.view.size (state_of a) (pending_of a) span.effects start lawful orderly c (span.crash.each c left)
+  crash_boots c left = some_boots a.view.size (state_of a) (pending_of a) span.effects start span.lawful orderly c (span.crash.each c left)
 
   -- what was read between two calls boots
   pub read_boots : (c : Image) → b.view.read_since a.view.moment c → BootsAfterSome a.view.size (state_of a) span.effects c
@@ -44,14 +44,14 @@ module _ (a b : Value) (span : Spans a b) (start : IsStart a.view.size (state_of
       let some = span.between.each c read in (
         some.0,
         some.1,
-        boots a.view.size (state_of a) (pending_of a) span.effects start lawful orderly some.0 some.1 c
+        boots a.view.size (state_of a) (pending_of a) span.effects start span.lawful orderly some.0 some.1 c
             (plain a.view.size (after (state_of a) (take some.0 span.effects)) (pending (pending_of a) (take some.0 span.effects)) (slice_get span.effects some.0) c some.2 some.3),
       )
 
 -- the board at the end is a start again
-pub span_starts : (a b : Value) (span : Spans a b) → b.failed ≡ false → IsStart a.view.size (state_of a) (pending_of a) → AreLawful (a.view.size Disk) (state_of a) span.effects → AreOrderly (state_of a) (pending_of a) span.effects
+pub span_starts : (a b : Value) (span : Spans a b) → b.failed ≡ false → IsStart a.view.size (state_of a) (pending_of a) → AreOrderly (state_of a) (pending_of a) span.effects
     → IsStart b.view.size (state_of b) (pending_of b)
-span_starts a b span live start lawful orderly = subst (λ (T : Type 0). T) same (reaches a.view.size xs (state_of a) (pending_of a) start lawful orderly (length xs) (omega arith)).start
+span_starts a b span live start orderly = subst (λ (T : Type 0). T) same (reaches a.view.size xs (state_of a) (pending_of a) start span.lawful orderly (length xs) (omega arith)).start
   where
     xs : List Effect
     xs = span.effects

@@ -150,7 +150,7 @@ lawful : AreLawful (size Disk) board run
 unfolding size board run before with_nos
 lawful = (
   record { whole = refl; some = omega arith; few = omega arith; off = λ q inside. inr (omega (arith, inside.from), omega (arith, inside.until)) },
-  (tt, (record { sane = sane_after; first = refl; last = refl; disk = refl }, (record { is = ([], record { lines = refl; variables = tt }); room = omega arith }, tt))),
+  (tt, (record { sane = sane_after; first = refl; last = refl; disk = refl }, (record { is = ([], record { lines = refl; variables = tt }); room = λ same. omega (arith, same) }, tt))),
 )
 
 orderly : AreOrderly board (λ q. ⊥) run

@@ -6,9 +6,9 @@ use Rattle.bd_dev.specs.declared.plant.Area.{Area}
 use Rattle.bd_dev.specs.declared.plant.Area.TheVariants.{Disk}
 use Rattle.bd_dev.specs.Content.{Image}
 use Rattle.bd_dev.specs.Plant.{IsHonest, IsImage}
-use Rattle.plant_runs.specs.Runs.{LeavesOnly}
-use Rattle.plant_runs.proofs.Joins.{leaves_now, leaves_then, reads_then}
-use Rattle.plant_runs.proofs.Touch.{leaves_weaker, reads_of, reads_weaker}
+use Rattle.bd_dev.specs.Runs.{LeavesOnly}
+use Rattle.bd_dev.proofs.Joins.{leaves_now, leaves_then, reads_then}
+use Rattle.bd_dev.proofs.Touch.{leaves_weaker, reads_of, reads_weaker}
 use Rattle.cuts.specs.declared.effect.Effect.{Effect}
 use Rattle.cuts.specs.States.{State, after, nothing, pending, pending_one}
 use Rattle.cuts.specs.Cuts.{IsSomeCleanCut, MayBeCut, MayBeCutAt, MayBeSomeCut}
@@ -20,14 +20,15 @@ use Rattle.cuts.proofs.Steady.{at_rest, some_at_rest, steady_now}
 
 -- a span whose images are all clean
 pub span_of : (v w : Value) (xs : List Effect) (n : ℕ) → IsHonest w.view → w.view.tells → (v.view.tells → w.view.tells) → ((a : Area) → w.view.size a ≡ v.view.size a) → w.journal ≡ v.journal ++ xs
-    → (w.failed ≡ false → state_of w ≡ after (state_of v) xs) → (w.failed ≡ false → Stands w)
+    → AreLawful (v.view.size Disk) (state_of v) xs → (w.failed ≡ false → state_of w ≡ after (state_of v) xs) → (w.failed ≡ false → Stands w)
     → LeavesOnly v.view w.view (IsSomeCleanCut v.view.size (state_of v) (pending_of v) xs)
     → IsReached w.failed n xs → ((c : Image) → IsImage w.view c → MayBeCut v.view.size (state_of v) (pending_of v) xs n c) → Spans v w
-span_of v w xs n honest tells still size journal state stands crash is now = record {
+span_of v w xs n honest tells still size journal lawful state stands crash is now = record {
   effects = xs;
   journal = journal;
   still_tells = still;
   size = size;
+  lawful = lawful;
   state = state;
   stands = stands;
   crash = leaves_weaker v.view w.view _ _ crash (λ c some. (some.0, some.1, some.2));
@@ -39,7 +40,7 @@ span_of v w xs n honest tells still size journal state stands crash is now = rec
 
 -- no effect
 pub spans_now : (v : Value) → IsHonest v.view → v.view.tells → Stands v → HasOnlyPending v → Spans v v
-spans_now v honest tells stands only = span_of v v [] 0 honest tells (λ t. t) (λ a. refl) (sym (append-nil v.journal)) (λ live. refl) (λ live. stands)
+spans_now v honest tells stands only = span_of v v [] 0 honest tells (λ t. t) (λ a. refl) (sym (append-nil v.journal)) tt (λ live. refl) (λ live. stands)
     (leaves_now v.view _ honest tells (λ c image. some_at_rest v c (steady_now v stands only c image)))
     (inl refl) (λ c image. at_rest v c (steady_now v stands only c image))
 
@@ -58,6 +59,7 @@ spans_then a b c first second live = record {
   journal = second.journal ∙ ap (λ (l : List Effect). l ++ ys) first.journal ∙ append_assoc a.journal xs ys;
   still_tells = λ t. second.still_tells (first.still_tells t);
   size = λ area. second.size area ∙ first.size area;
+  lawful = lawful_then (size Disk) S xs ys first.lawful (subst (λ (T : Type 0). T) (λ i. AreLawful (sizes i Disk) (meets i) ys) second.lawful);
   state = λ still. second.state still ∙ ap (λ (s : State). after s ys) meets ∙ sym (after-append S xs ys);
   stands = second.stands;
   crash = leaves_then a.view b.view c.view (MayBeSomeCut size S P (xs ++ ys)) (MayBeSomeCut b.view.size (state_of b) (pending_of b) ys)
@@ -104,14 +106,7 @@ pub effects_then : (a b c : Value) (first : Spans a b) (second : Spans b c) (spa
 effects_then a b c first second span = effects_are a c span (first.effects ++ second.effects)
     (second.journal ∙ ap (λ (l : List Effect). l ++ second.effects) first.journal ∙ append_assoc a.journal first.effects second.effects)
 
--- and they are lawful, or orderly, where those are
-
-pub lawful_join : (a b c : Value) (first : Spans a b) (second : Spans b c) (span : Spans a c) → b.failed ≡ false
-    → AreLawful (a.view.size Disk) (state_of a) first.effects → AreLawful (b.view.size Disk) (state_of b) second.effects → AreLawful (a.view.size Disk) (state_of a) span.effects
-lawful_join a b c first second span live one two = subst (λ (xs : List Effect). AreLawful (a.view.size Disk) (state_of a) xs) (sym (effects_then a b c first second span))
-    (lawful_then (a.view.size Disk) (state_of a) first.effects second.effects one
-    (subst (λ (T : Type 0). T) (λ i. AreLawful (first.size Disk i) (first.state live i) second.effects) two))
-
+-- and they are orderly where those are
 pub orderly_join : (a b c : Value) (first : Spans a b) (second : Spans b c) (span : Spans a c) → b.failed ≡ false
     → AreOrderly (state_of a) (pending_of a) first.effects → AreOrderly (state_of b) (pending_of b) second.effects → AreOrderly (state_of a) (pending_of a) span.effects
 orderly_join a b c first second span live one two = subst (λ (xs : List Effect). AreOrderly (state_of a) (pending_of a) xs) (sym (effects_then a b c first second span))

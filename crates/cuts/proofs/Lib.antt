@@ -16,3 +16,4 @@ pub mod Crashes
 mod Examples
 pub mod Beginning
 pub mod Openings
+pub mod Whole

@@ -7,14 +7,14 @@ use Rattle.bd_dev.specs.Plant.{View, IsHonest, IsImage, IsSynced}
 use Rattle.gpt_copy.specs.declared.table.Table.{Table}
 use Rattle.gpt_copy.specs.declared.table.Which.{Which}
 use Rattle.gpt_copy.specs.declared.table.Which.TheVariants.{Primary, Backup}
-use Rattle.plant_runs.specs.Runs.{Continues, LeavesOnly, Looks, ReadsOnly}
-use Rattle.plant_runs.specs.Touching.{Touches}
-use Rattle.plant_runs.proofs.Joins.{continues_then, leaves_then, reads_then, same_all, same_sector_trans}
-use Rattle.plant_runs.proofs.Touch.{leaves_both, leaves_weaker, reads_both, reads_of, reads_weaker}
+use Rattle.bd_dev.specs.Runs.{Continues, LeavesOnly, Looks, ReadsOnly}
+use Rattle.bd_dev.specs.Touching.{Touches}
+use Rattle.bd_dev.proofs.Joins.{continues_then, leaves_then, reads_then, same_all, same_sector_trans}
+use Rattle.bd_dev.proofs.Touch.{leaves_both, leaves_weaker, reads_both, reads_of, reads_weaker}
 use Rattle.storage_model.specs.Disk.{copy_of, table_of}
 use Rattle.storage_model.specs.Variables.{kept_in}
-use Rattle.cuts.specs.Copies.{HasSameTable, IsCleanOpening, KeepsOffTable, MayBeCopy, TouchesCopies}
-use Rattle.cuts.specs.Spans.{MayBeOpeningCut, Opens}
+use Rattle.storage_model.specs.Copies.{HasSameTable, IsCleanOpening, KeepsOffTable, MayBeCopy, TouchesCopies}
+use Rattle.cuts.specs.Spans.{IsSettledFrom, MayBeOpeningCut, Opens}
 use Rattle.cuts.proofs.Steady.{whole_area}
 
 -- a run that leaves what is read and marks nothing
@@ -103,26 +103,31 @@ kept_cut old mid settled c table keeps = record {
 }
 
 -- an opening that repairs the copies, once nothing is unsynced
-pub opens_repair : (old mid new : View) → IsHonest new → mid.tells → IsSettled old mid → TouchesCopies mid new
-    → LeavesOnly mid new (λ c. IsCleanOpening (mid.size Disk) mid.reads c → HasSameTable (mid.size Disk) mid.reads c) → ReadsOnly mid new (IsCleanOpening (mid.size Disk) mid.reads) → Opens old new
-opens_repair old mid new honest tells settled touches crash between = record {
-  crash = leaves_then old mid new _ _ (leaves_weaker old mid _ _ settled.quiet.crash (λ c image. inl image)) cuts (λ c cut. inr (here c cut));
-  settled = inr (mid.moment, record { from = settled.quiet.continues.later; to = touches.continues.later; cuts = λ c left. here c (cuts.each c left) });
-  between = reads_then old mid new _ _ (reads_weaker old mid _ _ settled.quiet.between (λ c same. own_both old.size old.reads c same))
-      (reads_both mid new _ _ between (reads_of mid new _ honest (touches.continues.still_tells tells) cuts)) (λ c both. (clean_here c both.0, here c both.1));
-}
-  where
-    sizes : mid.size ≡ old.size
-    sizes = λ i a. (settled.quiet.continues.size a) i
+module _ (old mid new : View) (tells : mid.tells) (settled : IsSettled old mid) (touches : TouchesCopies mid new)
+    (crash : LeavesOnly mid new (λ c. IsCleanOpening (mid.size Disk) mid.reads c → HasSameTable (mid.size Disk) mid.reads c)) where
+  repair_sizes : mid.size ≡ old.size
+  repair_sizes = λ i a. (settled.quiet.continues.size a) i
 
-    here : (c : Image) → MayBeOpeningCut mid.size mid.reads c → MayBeOpeningCut old.size old.reads c
-    here c cut = subst (λ (T : Type 0). T) (λ i. MayBeOpeningCut (sizes i) (settled.quiet.reads i) c) cut
+  repair_here : (c : Image) → MayBeOpeningCut mid.size mid.reads c → MayBeOpeningCut old.size old.reads c
+  repair_here c cut = subst (λ (T : Type 0). T) (λ i. MayBeOpeningCut (repair_sizes i) (settled.quiet.reads i) c) cut
 
-    clean_here : (c : Image) → IsCleanOpening (mid.size Disk) mid.reads c → IsCleanOpening (old.size Disk) old.reads c
-    clean_here c clean = subst (λ (T : Type 0). T) (λ i. IsCleanOpening (sizes i Disk) (settled.quiet.reads i) c) clean
+  clean_here : (c : Image) → IsCleanOpening (mid.size Disk) mid.reads c → IsCleanOpening (old.size Disk) old.reads c
+  clean_here c clean = subst (λ (T : Type 0). T) (λ i. IsCleanOpening (repair_sizes i Disk) (settled.quiet.reads i) c) clean
 
-    cuts : LeavesOnly mid new (MayBeOpeningCut mid.size mid.reads)
-    cuts = leaves_weaker mid new _ _ (leaves_both mid new _ _ crash (touches.told tells).crash) (λ c both. kept_cut old mid settled c both.0 both.1)
+  repair_cuts : LeavesOnly mid new (MayBeOpeningCut mid.size mid.reads)
+  repair_cuts = leaves_weaker mid new _ _ (leaves_both mid new _ _ crash (touches.told tells).crash) (λ c both. kept_cut old mid settled c both.0 both.1)
+
+  -- from its first moment on a crash leaves cuts alone
+  pub repair_settled : IsSettledFrom old new mid.moment
+  repair_settled = record { from = settled.quiet.continues.later; to = touches.continues.later; cuts = λ c left. repair_here c (repair_cuts.each c left) }
+
+  pub opens_repair : IsHonest new → ReadsOnly mid new (IsCleanOpening (mid.size Disk) mid.reads) → Opens old new
+  opens_repair honest between = record {
+    crash = leaves_then old mid new _ _ (leaves_weaker old mid _ _ settled.quiet.crash (λ c image. inl image)) repair_cuts (λ c cut. inr (repair_here c cut));
+    settled = inr (mid.moment, repair_settled);
+    between = reads_then old mid new _ _ (reads_weaker old mid _ _ settled.quiet.between (λ c same. own_both old.size old.reads c same))
+        (reads_both mid new _ _ between (reads_of mid new _ honest (touches.continues.still_tells tells) repair_cuts)) (λ c both. (clean_here c both.0, repair_here c both.1));
+  }
 
 -- an opening that finds nothing to repair, once nothing is unsynced
 pub opens_settled : (old mid new : View) → IsSettled old mid → IsQuiet mid new → Opens old new

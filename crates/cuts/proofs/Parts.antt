@@ -10,7 +10,7 @@ use Rattle.bd_dev.specs.Content.{Image}
 use Rattle.gpt_copy.specs.declared.table.Table.{Table}
 use Rattle.gpt_copy.specs.declared.table.Which.TheVariants.{Primary, Backup}
 use Rattle.storage_model.specs.Disk.{copy_of}
-use Rattle.cuts.specs.Copies.{OneOf, Only}
+use Rattle.storage_model.specs.Copies.{OneOf, Only}
 use Rattle.cuts.specs.declared.effect.Effect.{Effect}
 use Rattle.cuts.specs.declared.effect.Effect.TheVariants.{Put, Sync, Table as SetTable, Vars as SetVars}
 use Rattle.cuts.specs.States.{State, after, pending}

@@ -5,7 +5,7 @@ use Rattle.gpt_copy.specs.declared.table.Entry.{Entry}
 use Rattle.gpt_copy.specs.declared.table.Table.{Table}
 use Rattle.gpt_copy.specs.Copy.{FitsDisk}
 use Rattle.storage_model.specs.Entries.{HasEntry, InEntry, IsSane, OnieEntry}
-use Rattle.cuts.specs.Copies.{OffCopies}
+use Rattle.storage_model.specs.Copies.{OffCopies}
 use Rattle.cuts.specs.Orderly.{HasOnieAs, IsPlacedAs}
 
 -- a sector of a disk of so many sectors that lies off the copies

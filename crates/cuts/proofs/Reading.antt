@@ -4,7 +4,7 @@ use Rattle.std.proofs.lemmas.Bool.{and_parts, eqb-true, leb-true, ltb-true, or_c
 use Rattle.std.proofs.lemmas.Bool.Decides.{nat_tests}
 use Rattle.bd_dev.specs.Content.{SameSector, window}
 use Rattle.bd_dev.proofs.Windows.{at_byte}
-use Rattle.cuts.specs.Copies.{OffCopies}
+use Rattle.storage_model.specs.Copies.{OffCopies}
 use Rattle.cuts.specs.States.{InPut, is_off_copies, off_copies, patch}
 use Rattle.cuts.proofs.Patches.{not_in, patched_in, patched_out, put_cases}
 

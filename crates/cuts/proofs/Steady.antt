@@ -4,10 +4,11 @@ use Rattle.bd_dev.specs.declared.plant.Area.{Area}
 use Rattle.bd_dev.specs.declared.plant.Area.TheVariants.{Disk, Flash}
 use Rattle.bd_dev.specs.Content.{Image, SameSector}
 use Rattle.bd_dev.specs.Plant.{IsImage}
+use Rattle.bd_dev.proofs.Joins.{same_sector_trans}
 use Rattle.bd_dev.proofs.Windows.{at_byte}
 use Rattle.gpt_copy.specs.declared.table.Table.{Table}
 use Rattle.storage_model.specs.Variables.{kept_in}
-use Rattle.cuts.specs.Copies.{IsClean, OffCopies, Only, ReadsBoth}
+use Rattle.storage_model.specs.Copies.{IsClean, OffCopies, Only, ReadsBoth}
 use Rattle.cuts.specs.declared.effect.Effect.TheVariants.{Put, Sync}
 use Rattle.cuts.specs.States.{InPut}
 use Rattle.cuts.specs.Cuts.{IsSomeCleanCut, MayBeCutAt, stored_of}
@@ -40,7 +41,8 @@ module _ (v : Value) (stands : Stands v) (only : HasOnlyPending v) where
         (λ q on. keeps Disk q (λ same t. on (off q t)) (λ un. on (only.copies q un)));
     variables = ap (λ (z : ℕ → ℕ). kept_in (v.view.size Flash) z)
         (whole_area (v.view.reads Flash) (c Flash) (λ s. keeps Flash s (λ same t. cc) (only.flash s))) ∙ stands.variables;
-    sectors = λ q free pends out. image_off (v.view.size Disk) (v.view.reads Disk) (c Disk) q free (keeps Disk q (λ same t. out t) (λ un. pends (only.disk q un)));
+    sectors = λ q free pends out. image_off (v.view.size Disk) v.disk (c Disk) q free
+        (same_sector_trans v.disk (v.view.reads Disk) (c Disk) q (only.held q pends) (keeps Disk q (λ same t. out t) (λ un. pends (only.disk q un))));
   }
 
   pub steady_now : (c : Image) → IsImage v.view c → IsSteady v (λ q. ⊥) c

@@ -5,9 +5,9 @@ use Rattle.bd_dev.specs.declared.plant.Area.TheVariants.{Disk, Flash}
 use Rattle.bd_dev.specs.Content.{Image, SameSector}
 use Rattle.gpt_copy.specs.declared.table.Table.{Table}
 use Rattle.storage_model.specs.Disk.{table_of}
-use Rattle.storage_model.specs.Slots.{Stored}
+use Rattle.slot_model.specs.Slots.{Stored}
 use Rattle.storage_model.specs.Variables.{kept_in}
-use Rattle.cuts.specs.Copies.{OffCopies, ReadsBoth, IsClean, IsCleanBetween, IsEitherTable, Only}
+use Rattle.storage_model.specs.Copies.{OffCopies, ReadsBoth, IsClean, IsCleanBetween, IsEitherTable, Only}
 use Rattle.cuts.specs.declared.effect.Effect.{Effect}
 use Rattle.cuts.specs.declared.effect.Effect.TheVariants.{Put, Table as SetTable, Vars as SetVars}
 use Rattle.cuts.specs.States.{State, InPut, after, pending}

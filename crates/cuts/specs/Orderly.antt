@@ -1,11 +1,11 @@
 -- Which effects a board takes, and which runs of them are orderly.
-use Rattle.std.specs.Prelude.{◌≡◌, ◌⊎◌, ℕ, ◌-◌, ◌*◌, ◌%◌, ◌^◌, ◌<◌, ◌≤◌, List, [], ◌∷◌, length}
+use Rattle.std.specs.Prelude.{◌≡◌, ◌≢◌, ◌⊎◌, ℕ, ◌-◌, ◌*◌, ◌%◌, ◌^◌, ◌<◌, ◌≤◌, List, [], ◌∷◌, length}
 use Rattle.bd_text.specs.declared.guid.Guid.{Guid}
 use Rattle.gpt_copy.specs.declared.table.Entry.{Entry}
 use Rattle.gpt_copy.specs.declared.table.Table.{Table}
 use Rattle.storage_model.specs.Entries.{HasEntry, InEntry, IsSane, NosEntry, OnieEntry}
 use Rattle.storage_model.specs.Variables.{IsText, Names}
-use Rattle.cuts.specs.Copies.{OffCopies}
+use Rattle.storage_model.specs.Copies.{OffCopies}
 use Rattle.cuts.specs.declared.effect.Effect.{Effect}
 use Rattle.cuts.specs.declared.effect.Effect.TheVariants.{Put, Sync, Table as SetTable, Vars as SetVars}
 use Rattle.cuts.specs.States.{State, InPut, after_one, pending_one}
@@ -24,10 +24,10 @@ pub record IsLawfulTable (old new : Table) : Type 0 where
   pub last : new.last_usable ≡ old.last_usable
   pub disk : new.disk ≡ old.disk
 
--- a text of variables, for which there is a number
+-- a text of variables, for which there is a number: that of the text before is not the greatest
 pub record IsLawfulText (number : ℕ) (text : List ℕ) : Type 0 where
   pub is : IsText text
-  pub room : number < 2 ^ 64 - 1
+  pub room : number ≢ 2 ^ 64 - 1
 
 -- an effect that a board with a disk of so many sectors may have in this state
 abbrev pub IsLawful : ℕ → State → Effect → Type 0

@@ -1,6 +1,7 @@
 //! The law of cuts.
 
 ghost use Rattle.cuts.specs.Law.{CleanCutsAreCuts, LawOfCuts, LawOfStarts, SoundBoardsAreStarts};
+ghost use Rattle.cuts.specs.Whole.{LawOfOpenings, LawOfSuccess, LawOfTheLast};
 
 /// The law of cuts: from a sound state, with pending sectors in neither ONIE's entry nor the named one, at every cut
 /// of every lawful and orderly run of effects the image is sound, ONIE's partition reads as at the start, and the NOS
@@ -24,4 +25,21 @@ pub fn clean_cuts_are_cuts()
 /// power cut, however often power cuts come.
 pub fn sound_boards_are_starts()
     ensures { SoundBoardsAreStarts }
+{}
+
+/// What a power cut leaves while a sound board is opened boots as that board did, wherever it is clean.
+pub fn law_of_openings()
+    ensures { LawOfOpenings }
+{}
+
+/// Success stays: once a run has ended with a sync, and perhaps a change of the variables, nothing is pending. Whatever
+/// cut comes then holds all of the state that the run has reached, and boots it.
+pub fn law_of_success()
+    ensures { LawOfSuccess }
+{}
+
+/// A cut behind the last effect is one in which that effect runs. So where a board failed in an effect, those before it
+/// are done, and of that one nothing need be known.
+pub fn law_of_the_last()
+    ensures { LawOfTheLast }
 {}

@@ -9,4 +9,7 @@ mod effect;
 mod law;
 
 pub use effect::Effect;
-pub use law::{clean_cuts_are_cuts, law_of_cuts, law_of_starts, sound_boards_are_starts};
+pub use law::{
+    clean_cuts_are_cuts, law_of_cuts, law_of_openings, law_of_starts, law_of_success,
+    law_of_the_last, sound_boards_are_starts,
+};

@@ -6,16 +6,15 @@ use Rattle.std.specs.Option.{ForSome}
 use Rattle.bd_dev.specs.Rows.{Row, arrivals}
 use Rattle.bd_dev.specs.Sink.{Appends}
 use Rattle.bd_dev.specs.Volumes.{Volume}
-use Rattle.flow.specs.Phase.{flow_end, time_limit}
-use Rattle.flow.specs.declared.flows.Flow.{Flow}
+use Rattle.flow.specs.Phase.{time_limit}
 use Rattle.url.specs.Parts.{Parts}
 use Rattle.url_waterfall.specs.declared.candidate.Candidate.{Candidate}
 use Rattle.url_waterfall.specs.declared.candidate.Place.{Place}
 use Rattle.url_waterfall.specs.declared.candidate.Place.TheVariants as places
 use Rattle.find_fetch.specs.Aim.{aim_of, aimed_by, aimed_for, asked_by, at_spot, is_unfit, label_of, spot_of, url_of}
-use Rattle.find_fetch.specs.Bodies.{body_acts, found_by}
-use Rattle.find_fetch.specs.Fetching.{Asked, Fetches, HasLeft, Seen, after_flow, answer_of, clock_of, fetched_by, fetched_over, flow_at, flow_by, flow_to, is_local, needs, phase_text, sought}
-use Rattle.find_fetch.specs.declared.body_core.BodyCore.{BodyCore}
+use Rattle.find_fetch.specs.Bodies.{outcome_of}
+use Rattle.find_fetch.specs.Fetching.{Asked, Fetches, HasLeft, Seen, Talk, after_flow, answer_of, clock_of, fetched_by, fetched_over, flow_by, flow_to, is_local, needs, phase_text, sought, talk_at}
+use Rattle.find_fetch.specs.Local.{IsWithinLimit}
 use Rattle.find_fetch.specs.declared.fetched.FetchFault.{FetchFault}
 use Rattle.find_fetch.specs.declared.fetched.Fetched.{Fetched}
 use Rattle.find_fetch.specs.declared.fetched.Fetched.TheVariants as fetched
@@ -70,6 +69,39 @@ pub only_local : (c : Candidate) (aimed : Aimed) → aimed ≡ aim_of c → aime
 unfolding aim_of
 only_local c aimed e is other = local_at c.place c.shown (sym is ∙ e) other
 
+-- ---- what is refused
+
+-- a refusal is none of a file that ended early
+abbrev IsLimited : Aimed → Type 0
+IsLimited aimeds.Local = Unit {0}
+IsLimited (aimeds.Refused miss) = IsWithinLimit (fetched.Miss miss)
+IsLimited (aimeds.Aim aim) = Unit {0}
+
+limited_if : (b : Bool) (x y : Aimed) → IsLimited x → IsLimited y → IsLimited (if b then x else y)
+limited_if true x y left right = left
+limited_if false x y left right = right
+
+spot_limited : (url : Parts) (path : List ℕ) (spot : Option Spot) → IsLimited (at_spot url path spot)
+spot_limited url path None = tt
+spot_limited url path (Some spot) = tt
+
+url_limited : (url : Option Parts) (path : Parts → List ℕ) → IsLimited (aimed_by url path)
+url_limited None path = tt
+url_limited (Some url) path =
+    let unfit = is_unfit url (path url) in
+    let spot = option_and_then spot_of url.host in
+    limited_if (not (bytes_eq url.scheme (codes "tftp"))) (aimeds.Refused Scheme) (if unfit then aimeds.Refused BadUrl else at_spot url (path url) spot)
+    tt (limited_if unfit (aimeds.Refused BadUrl) (at_spot url (path url) spot) tt (spot_limited url (path url) spot))
+
+aimed_limited : (place : Place) (shown : List ℕ) → IsLimited (aimed_for place shown)
+aimed_limited (places.Local volume name) shown = tt
+aimed_limited places.Url shown = url_limited (url_of shown) (asked_by None)
+aimed_limited (places.Tftp server path) shown = url_limited (url_of shown) (asked_by (Some path))
+
+pub refused_within : (c : Candidate) (aimed : Aimed) (miss : Miss) → aimed ≡ aim_of c → aimed ≡ aimeds.Refused miss → IsWithinLimit (fetched.Miss miss)
+unfolding aim_of
+refused_within c aimed miss e is = subst IsLimited (sym e ∙ is) (aimed_limited c.place c.shown)
+
 -- ---- what a fetch gives
 
 for_mapped : {A : Type 0} (f : A → Fetched) (o : Option A) (found : Fetched) → ForSome o (λ x. found ≡ f x)
@@ -98,7 +130,7 @@ called_answer rows files round c aimed aim name e is spot =
 
 pub at_answer : (rows : Option (List Row)) (files : Option (List Volume)) (round : ℕ) (c : Candidate) (aimed : Aimed) (aim : Aim) (host : List ℕ) (result : Result Fetched FetchFault)
     → aimed ≡ aim_of c → aimed ≡ aimeds.Aim aim → aim.spot ≡ At host
-    → IfOk result (λ found. ForSome rows (λ told. found ≡ found_by aim (arrivals told round (label_of aim host))))
+    → IfOk result (λ found. ForSome rows (λ told. found ≡ (outcome_of aim (arrivals told round (label_of aim host))).found))
     → IfOk result (λ found. ForSome (answer_of rows files round c) (λ told. found ≡ told))
 at_answer rows files round c aimed aim host (Err fault) e is spot h = tt
 at_answer rows files round c aimed aim host (Ok found) e is spot h =
@@ -113,19 +145,19 @@ on_ok (Err e) P Q f p = tt
 
 pub at_made : (s s' : Seen) (round : ℕ) (c : Candidate) (aimed : Aimed) (aim : Aim) (host : List ℕ)
     → aimed ≡ aim_of c → aimed ≡ aimeds.Aim aim → aim.spot ≡ At host → s'.rows ≡ s.rows → s'.files ≡ s.files
-    → ForSome s.rows (λ rows. (s'.time ≡ s.time + (flow_end body_acts round rows (flow_at aim host)).moment) × (s'.opened ≡ s.opened + 1)
-    × Appends s.trace s'.trace (phase_text rows round (flow_at aim host) s.time s.opened))
+    → ForSome s.rows (λ rows. (s'.time ≡ s.time + (outcome_of aim (arrivals rows round (label_of aim host))).end) × (s'.opened ≡ s.opened + 1)
+    × Appends s.trace s'.trace (phase_text rows round (talk_at aim host) s.time s.opened))
     → Fetches s ((let x : Asked = record { round = round; candidate = c } in x) ∷ []) s'
 at_made s s' round c aimed aim host e is spot rows files h = record {
   rows = rows;
   files = files;
   passed = λ told are.
-      let flow : Some (flow_at aim host) ≡ flow_by (aim_of c) = ap (flow_to aim) (sym spot) ∙ ap flow_by (sym is ∙ e) in
+      let flow : Some (talk_at aim host) ≡ flow_by (aim_of c) = ap (flow_to aim) (sym spot) ∙ ap flow_by (sym is ∙ e) in
       let made = h told are in
       record {
-        time = made.0 ∙ ap (λ (o : Option (Flow BodyCore)). (after_flow told round (clock_of s) o).time) flow;
-        opened = made.1 ∙ ap (λ (o : Option (Flow BodyCore)). (after_flow told round (clock_of s) o).opened) flow;
-        trace = subst (λ (o : Option (Flow BodyCore)). Appends s.trace s'.trace (after_flow told round (clock_of s) o).trace) flow made.2;
+        time = made.0 ∙ ap (λ (o : Option Talk). (after_flow told round (clock_of s) o).time) flow;
+        opened = made.1 ∙ ap (λ (o : Option Talk). (after_flow told round (clock_of s) o).opened) flow;
+        trace = subst (λ (o : Option Talk). Appends s.trace s'.trace (after_flow told round (clock_of s) o).trace) flow made.2;
       };
 }
 

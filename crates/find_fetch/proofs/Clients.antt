@@ -1,21 +1,21 @@
--- The client for a request: what it asks for, what it finds and what it sends.
-use Rattle.std.proofs.Common.{◌≡◌, ◌≤◌, ℕ, Bool, true, false, ◌&&◌, nat_le, List, [], ◌∷◌, length, Some, option_map, ap, refl, ◌∙◌, arith}
+-- The client for a request: what it asks for, and what it comes to.
+use Rattle.std.proofs.Common.{◌≡◌, ◌≤◌, ℕ, Bool, true, false, ◌&&◌, nat_le, List, [], ◌∷◌, length, refl, arith}
 use Rattle.std.specs.List.{AllByRecursion, list_all}
 use Rattle.std.proofs.lemmas.Bool.Decides.{nat_tests}
 use Rattle.std.proofs.lemmas.List.Elements.{All-from_recursion}
 use Rattle.bd_dev.specs.Rows.{TimedArrival}
-use Rattle.flow.specs.Own.{State, own_end, own_sends}
-use Rattle.tftp_client.specs.Core.{result_of, tftp_acts}
+use Rattle.waits.specs.Around.{IsAround}
+use Rattle.waits.specs.Waits.{ComesTo, found_of, new_waiter, outcome}
+use Rattle.waits.proofs.Around.{comes_around}
+use Rattle.waits.proofs.Found.{comes_to}
 use Rattle.tftp_client.specs.Packets.{IsPath}
-use Rattle.tftp_client.specs.Transfer.{tftp_body, tftp_sends}
-use Rattle.tftp_client.specs.declared.tftp_core.TftpCore.{TftpCore}
+use Rattle.tftp_client.specs.Transfer.{none_taken, tftp, tftp_acts, tftp_timely}
 use Rattle.find_fetch.specs.Aim.{IsAskable, is_path, is_printable}
-use Rattle.find_fetch.specs.Bodies.{body_acts, body_result, by_tftp, way_found, way_sends}
-use Rattle.find_fetch.specs.declared.body_core.BodyCore.{BodyCore}
+use Rattle.find_fetch.specs.Bodies.{body_acts, body_result, by_tftp, client_of, outcome_of, way_client, way_outcome}
 use Rattle.find_fetch.specs.declared.body_core.BodyCore.TheVariants as bodies
+use Rattle.find_fetch.specs.declared.request.Aim.{Aim}
 use Rattle.find_fetch.specs.declared.request.Way.{Way}
 use Rattle.find_fetch.specs.declared.request.Way.TheVariants as ways
-use Rattle.find_fetch.proofs.Lifted.{end_lifted, sends_lifted}
 
 -- what is asked for
 abbrev pub path_in : Way → List ℕ
@@ -54,16 +54,25 @@ path_of_test path h =
 pub askable_path : (way : Way) → IsAskable way → IsPath (path_in way)
 askable_path (ways.Tftp path) h = path_of_test path h
 
--- what it finds
-pub finds_by : (way : Way) (c : TftpCore) (arrivals : List TimedArrival)
-    → result_of ((own_end tftp_acts c arrivals).core) ≡ Some (tftp_body arrivals)
-    → body_result ((own_end body_acts (bodies.Tftp c) arrivals).core) ≡ Some (way_found way arrivals)
-finds_by (ways.Tftp path) c arrivals h =
-    ap (λ (s : State BodyCore). body_result s.core) (end_lifted c arrivals) ∙ ap (option_map by_tftp) h
+-- the client for a request does what its inner client does
+around_tftp : IsAround bodies.Tftp tftp_acts body_acts
+around_tftp = record {
+  begun = λ c. refl;
+  begun_letters = λ c. refl;
+  arrived = λ c at a. refl;
+  arrived_letters = λ c at a. refl;
+  expired = λ c at. refl;
+  expired_letters = λ c at. refl;
+  flooded = λ c. refl;
+  deadline = λ c. refl;
+  left = λ c. refl;
+}
 
--- what it sends
-pub sends_for : (way : Way) (port : ℕ) (path : List ℕ) (c : TftpCore) (arrivals : List TimedArrival) → path ≡ path_in way
-    → own_sends tftp_acts c arrivals ≡ tftp_sends port path arrivals
-    → own_sends body_acts (bodies.Tftp c) arrivals ≡ way_sends port way arrivals
-sends_for (ways.Tftp own) port path c arrivals same h =
-    sends_lifted c arrivals ∙ h ∙ ap (λ (p : List ℕ). tftp_sends port p arrivals) same
+way_comes_to : (port : ℕ) (way : Way) (comes : List TimedArrival) → ComesTo body_acts body_result (way_client port way) comes (way_outcome port way comes)
+way_comes_to port (ways.Tftp path) comes =
+    comes_around bodies.Tftp tftp_acts body_acts around_tftp by_tftp found_of body_result (λ c. refl) (new_waiter tftp (none_taken port path)) comes
+    (outcome tftp (none_taken port path) comes) (comes_to tftp tftp_timely (none_taken port path) comes)
+
+-- it comes to the request's outcome
+pub aim_comes_to : (aim : Aim) (comes : List TimedArrival) → ComesTo body_acts body_result (client_of aim) comes (outcome_of aim comes)
+aim_comes_to aim comes = way_comes_to aim.port aim.way comes

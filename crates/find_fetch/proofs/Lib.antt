@@ -1,6 +1,4 @@
 mod AimLemmas
 mod Asking
 mod Clients
-mod Fronts
-mod Lifted
 mod Seeking

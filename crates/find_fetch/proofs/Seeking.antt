@@ -1,5 +1,5 @@
 -- A phase of one flow: its core's end, the text of what is sent, and the time.
-use Rattle.std.proofs.Common.{◌≡◌, ◌≤◌, ◌<◌, ℕ, ◌+◌, max, Bool, if◌then◌else◌, List, [], ◌∷◌, ◌++◌, length, get_or, Option, Some, None, option_map, refl, ap, sym, subst, ◌∙◌, arith, eq-eqb}
+use Rattle.std.proofs.Common.{◌≡◌, ◌≤◌, ◌<◌, ℕ, ◌+◌, max, Bool, if◌then◌else◌, List, [], ◌∷◌, ◌++◌, length, get_or, Option, Some, None, option_map, map, refl, ap, sym, subst, ◌∙◌, arith, eq-eqb}
 use Rattle.std.specs.Prelude.{slice_get, OnErr, Result, Ok, Err}
 use Rattle.std.specs.List.{AllByRecursion}
 use Rattle.std.proofs.lemmas.List.{append-nil}
@@ -7,13 +7,15 @@ use Rattle.bd_dev.specs.Net.{Outgoing}
 use Rattle.bd_dev.specs.Rows.{Row, arrivals}
 use Rattle.bd_dev.specs.Sink.{AppendsFront}
 use Rattle.flow.specs.Phase.{IsPhase, RunsAlone, flow_end, flow_sends}
-use Rattle.flow.specs.Sends.{IsMergeOf, of_flow}
+use Rattle.flow.specs.Own.{TimedLetter}
+use Rattle.flow.specs.Sends.{IsMergeOf, of_flow, sent_of}
 use Rattle.flow.specs.declared.flows.Flow.{Flow}
 use Rattle.flow.specs.declared.sends.Sent.{Sent}
 use Rattle.trace_text.specs.TraceText.{trace_text}
 use Rattle.find_fetch.specs.Aim.{label_of}
-use Rattle.find_fetch.specs.Bodies.{HasBodyBegun, body_acts, body_result, client_of, found_by}
-use Rattle.find_fetch.specs.Fetching.{flow_at, phase_text}
+use Rattle.find_fetch.specs.Bodies.{HasBodyBegun, body_acts, body_result, client_of, outcome_of}
+use Rattle.find_fetch.specs.Fetching.{phase_text, talk_at}
+use Rattle.find_fetch.proofs.Clients.{aim_comes_to}
 use Rattle.find_fetch.specs.declared.body_core.BodyCore.{BodyCore}
 use Rattle.find_fetch.specs.declared.fetched.Fetched.{Fetched}
 use Rattle.find_fetch.specs.declared.request.Aim.{Aim}
@@ -53,11 +55,15 @@ merge_one first part sends merge =
     ∙ ap (λ (n : ℕ). of_flow n sends) (sym zero_more)
     ∙ merge.each 0 (omega arith)
 
+-- the flow of a request to a host
+abbrev flow_at : Aim → List ℕ → Flow BodyCore
+flow_at aim host = record { label = label_of aim host; core = client_of aim }
+
 -- what a request to a host comes to
 pub record Sought (aim : Aim) (host : List ℕ) (since round first : ℕ) (rows : List Row) (core : BodyCore) (after : List Sent) (end : ℕ) : Type 0 where
-  pub core_is : core ≡ (flow_end body_acts round rows (flow_at aim host)).core
-  pub text_is : trace_text after ≡ phase_text rows round (flow_at aim host) since first
-  pub end_is : end ≡ since + (flow_end body_acts round rows (flow_at aim host)).moment
+  pub found_is : body_result core ≡ Some (outcome_of aim (arrivals rows round (label_of aim host))).found
+  pub text_is : trace_text after ≡ phase_text rows round (talk_at aim host) since first
+  pub end_is : end ≡ since + (outcome_of aim (arrivals rows round (label_of aim host))).end
 
 sought_alone : (aim : Aim) (host : List ℕ) (since round first : ℕ) (rows : List Row) (old new : List (Flow BodyCore)) (sent : List Sent) (end : ℕ) (d : Flow BodyCore)
     → old ≡ flow_at aim host ∷ [] → length new ≡ 1 → RunsAlone body_acts since round first rows old new sent end
@@ -66,15 +72,16 @@ sought_alone aim host since round first rows old new sent end d is one alone =
     let f = flow_at aim host in
     let runs : RunsAlone body_acts since round first rows (f ∷ []) new sent end =
     subst (λ (flows : List (Flow BodyCore)). RunsAlone body_acts since round first rows flows new sent end) is alone in
+    let comes = aim_comes_to aim (arrivals rows round (label_of aim host)) in
     let zero_more : first + 0 ≡ first = omega arith in
     let last = runs.last in
     let sent_is : sent ≡ flow_sends body_acts since round first rows (Some f) =
     merge_one first (λ i. flow_sends body_acts since round (first + i) rows (slice_get (f ∷ []) i)) sent runs.sent
     ∙ ap (λ (n : ℕ). flow_sends body_acts since round n rows (Some f)) zero_more in
     record {
-      core_is = runs.ends 0 (get_or new 0 d) f (one_at new d one) refl;
-      text_is = ap trace_text sent_is;
-      end_is = last ∙ ap (λ (m : ℕ). since + m) (max_none (flow_end body_acts round rows f).moment);
+      found_is = ap body_result (runs.ends 0 (get_or new 0 d) f (one_at new d one) refl) ∙ comes.found;
+      text_is = ap trace_text (sent_is ∙ ap (λ (letters : List TimedLetter). map (sent_of since round first (label_of aim host)) letters) comes.sends);
+      end_is = last ∙ ap (λ (m : ℕ). since + m) (max_none (flow_end body_acts round rows f).moment ∙ comes.ends);
     }
   where
     max_none : (m : ℕ) → max m 0 ≡ m
@@ -94,14 +101,7 @@ sought_one aim host since round first rows label core old new before after net n
     (sought_alone aim host since round first told old new phase.sent end d whole one (phase.alone told are))
 
 -- what the client that is done has found
-pub found_one : (aim : Aim) (host : List ℕ) (since round first : ℕ) (rows : List Row) (own core : BodyCore) (after : List Sent) (end : ℕ) (found : Fetched)
-    → Sought aim host since round first rows core after end
-    → own ≡ client_of aim → body_result ((flow_end body_acts round rows (let f : Flow BodyCore = record { label = label_of aim host; core = own } in f)).core) ≡ Some (found_by aim (arrivals rows round (label_of aim host)))
-    → body_result core ≡ Some found
-    → found ≡ found_by aim (arrivals rows round (label_of aim host))
-found_one aim host since round first rows own core after end found sought own_is finds result =
-    let here : body_result core ≡ body_result (flow_end body_acts round rows (flow_at aim host)).core = ap body_result sought.core_is in
-    let there : body_result (flow_end body_acts round rows (flow_at aim host)).core ≡ Some (found_by aim (arrivals rows round (label_of aim host))) =
-    subst (λ (k : BodyCore). body_result ((flow_end body_acts round rows (let f : Flow BodyCore = record { label = label_of aim host; core = k } in f)).core) ≡ Some (found_by aim (arrivals rows round (label_of aim host)))) own_is finds in
-    let all : Some found ≡ Some (found_by aim (arrivals rows round (label_of aim host))) = sym result ∙ here ∙ there in
+pub found_one : (core : BodyCore) (told found : Fetched) → body_result core ≡ Some told → body_result core ≡ Some found → found ≡ told
+found_one core told found is result =
+    let all : Some found ≡ Some told = sym result ∙ is in
     cc all

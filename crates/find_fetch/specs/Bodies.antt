@@ -1,14 +1,12 @@
 -- The client that fetches a body: it does what its inner client does.
-use Rattle.std.specs.Prelude.{ℕ, List, [], Option, None, option_map, Result, Ok, Err}
+use Rattle.std.specs.Prelude.{ℕ, List, Option, option_map, Result, Ok, Err}
 use Rattle.bd_dev.specs.Rows.{TimedArrival}
 use Rattle.bd_dev.specs.declared.net.Arrival.{Arrival}
 use Rattle.flow.specs.Core.{Acts}
-use Rattle.flow.specs.Own.{TimedLetter}
 use Rattle.flow.specs.declared.letters.Letter.{Letter}
-use Rattle.tftp_client.specs.Core.{HasTftpBegun, IsNewTftp, result_of, tftp_acts}
-use Rattle.tftp_client.specs.Packets.{request}
-use Rattle.tftp_client.specs.Transfer.{tftp_body, tftp_sends}
-use Rattle.tftp_client.specs.declared.tftp_core.TftpCore.{TftpCore}
+use Rattle.waits.specs.Waits.{Outcome, found_as, new_waiter, outcome}
+use Rattle.waits.specs.Laws.{HasWaiterBegun, IsNewWaiter}
+use Rattle.tftp_client.specs.Transfer.{none_taken, tftp, tftp_acts}
 use Rattle.tftp_client.specs.declared.tftp_core.TftpMiss.{TftpMiss}
 use Rattle.find_fetch.specs.declared.request.Aim.{Aim}
 use Rattle.find_fetch.specs.declared.request.Way.{Way}
@@ -62,11 +60,11 @@ body_acts = record {
 
 -- a client that has not begun
 abbrev pub IsNewBody : BodyCore → Type 0
-IsNewBody (bodies.Tftp c) = IsNewTftp c
+IsNewBody (bodies.Tftp c) = IsNewWaiter tftp c
 
 -- a client that has begun
 abbrev pub HasBodyBegun : BodyCore → Type 0
-HasBodyBegun (bodies.Tftp c) = HasTftpBegun c
+HasBodyBegun (bodies.Tftp c) = HasWaiterBegun c
 
 -- a body, or why a transfer gives none
 abbrev pub by_tftp : Result (List ℕ) TftpMiss → Fetched
@@ -75,38 +73,18 @@ by_tftp (Err miss) = fetched.Miss (misses.Tftp miss)
 
 -- what it found, where it is done
 abbrev pub body_result : BodyCore → Option Fetched
-body_result (bodies.Tftp c) = option_map by_tftp (result_of c)
-
--- the TFTP client that will ask this port for this path
-abbrev pub tftp_for : ℕ → List ℕ → TftpCore
-tftp_for port path = record {
-  port = port;
-  request = request path;
-  chosen = None;
-  number = 0;
-  body = [];
-  due = 2000;
-  retries = 2;
-  ending = None;
-}
+body_result (bodies.Tftp c) = option_map by_tftp c.found
 
 -- the client for a request
 abbrev pub way_client : ℕ → Way → BodyCore
-way_client port (ways.Tftp path) = bodies.Tftp (tftp_for port path)
+way_client port (ways.Tftp path) = bodies.Tftp (new_waiter tftp (none_taken port path))
 
 abbrev pub client_of : Aim → BodyCore
 client_of aim = way_client aim.port aim.way
 
--- what a request finds where this comes
-abbrev pub way_found : Way → List TimedArrival → Fetched
-way_found (ways.Tftp path) arrivals = by_tftp (tftp_body arrivals)
+-- what a request comes to where this comes: what it finds, what is sent for it, and when its client ends
+abbrev pub way_outcome : ℕ → Way → List TimedArrival → Outcome Fetched
+way_outcome port (ways.Tftp path) arrivals = found_as by_tftp (outcome tftp (none_taken port path) arrivals)
 
-abbrev pub found_by : Aim → List TimedArrival → Fetched
-found_by aim arrivals = way_found aim.way arrivals
-
--- what is sent for it then
-abbrev pub way_sends : ℕ → Way → List TimedArrival → List TimedLetter
-way_sends port (ways.Tftp path) arrivals = tftp_sends port path arrivals
-
-abbrev pub sends_by : Aim → List TimedArrival → List TimedLetter
-sends_by aim arrivals = way_sends aim.port aim.way arrivals
+abbrev pub outcome_of : Aim → List TimedArrival → Outcome Fetched
+outcome_of aim arrivals = way_outcome aim.port aim.way arrivals

@@ -1,12 +1,12 @@
 -- What a fetch gives, and what fetches make of a network and of the trace.
-use Rattle.std.specs.Prelude.{◌≡◌, ◌≤◌, ℕ, ◌+◌, ◌-◌, ◌*◌, ◌^◌, Bool, true, false, if◌then◌else◌, List, [], ◌∷◌, ◌++◌, Option, Some, None, option_map}
+use Rattle.std.specs.Prelude.{◌≡◌, ◌≤◌, ℕ, ◌+◌, ◌-◌, ◌*◌, ◌^◌, Bool, true, false, if◌then◌else◌, List, [], ◌∷◌, ◌++◌, Option, Some, None, map, option_map}
 use Rattle.std.specs.Option.{ForSome}
 use Rattle.bd_dev.specs.Net.{OpenFlow}
-use Rattle.bd_dev.specs.Rows.{Row, arrivals}
+use Rattle.bd_dev.specs.Rows.{Row, TimedArrival, arrivals}
 use Rattle.bd_dev.specs.Sink.{Appends, AppendsFront}
 use Rattle.bd_dev.specs.Volumes.{Volume, file_of}
-use Rattle.flow.specs.Phase.{flow_end, flow_sends}
-use Rattle.flow.specs.declared.flows.Flow.{Flow}
+use Rattle.flow.specs.Own.{TimedLetter}
+use Rattle.flow.specs.Sends.{sent_of}
 use Rattle.trace_text.specs.TraceText.{trace_text}
 use Rattle.url_waterfall.specs.declared.candidate.Candidate.{Candidate}
 use Rattle.url_waterfall.specs.declared.candidate.Place.{Place}
@@ -16,12 +16,11 @@ use Rattle.find_fetch.specs.declared.request.Aimed.{Aimed}
 use Rattle.find_fetch.specs.declared.request.Aimed.TheVariants as aimeds
 use Rattle.find_fetch.specs.declared.request.Spot.{Spot}
 use Rattle.find_fetch.specs.declared.request.Spot.TheVariants.{At, Called}
-use Rattle.find_fetch.specs.declared.body_core.BodyCore.{BodyCore}
 use Rattle.find_fetch.specs.declared.fetched.Fetched.{Fetched}
 use Rattle.find_fetch.specs.declared.fetched.Fetched.TheVariants.{Miss}
 use Rattle.find_fetch.specs.declared.fetched.Miss.TheVariants.{NoFile, NoServer}
 use Rattle.find_fetch.specs.Aim.{aim_of, label_of}
-use Rattle.find_fetch.specs.Bodies.{body_acts, client_of, found_by}
+use Rattle.find_fetch.specs.Bodies.{outcome_of}
 use Rattle.find_fetch.specs.Local.{local_of}
 
 -- ---- what it gives
@@ -41,7 +40,7 @@ local_at volumes _ = Miss NoFile
 
 -- what a request finds at a spot; a name is not looked up without a name server
 abbrev pub sought : List Row → ℕ → Aim → Spot → Fetched
-sought rows round aim (At host) = found_by aim (arrivals rows round (label_of aim host))
+sought rows round aim (At host) = (outcome_of aim (arrivals rows round (label_of aim host))).found
 sought rows round aim (Called host) = Miss NoServer
 
 -- by what is to be done
@@ -72,16 +71,26 @@ pub record Asked : Type 0 where
 abbrev pub needs : Candidate → ℕ
 needs c = if is_local c then 0 else 1
 
--- the flow of a request to a host
-abbrev pub flow_at : Aim → List ℕ → Flow BodyCore
-flow_at aim host = record { label = label_of aim host; core = client_of aim }
+-- what goes on on a flow: its label, and by what comes to that what is sent, and when it ends
+pub record Talk : Type 0 where
+  pub label : List ℕ
+  pub sends : List TimedArrival → List TimedLetter
+  pub end : List TimedArrival → ℕ
 
--- the flow of a request to a spot, if one is opened
-abbrev pub flow_to : Aim → Spot → Option (Flow BodyCore)
-flow_to aim (At host) = Some (flow_at aim host)
+-- the talk of a request to a host
+abbrev pub talk_at : Aim → List ℕ → Talk
+talk_at aim host = record {
+  label = label_of aim host;
+  sends = λ comes. (outcome_of aim comes).sends;
+  end = λ comes. (outcome_of aim comes).end;
+}
+
+-- the talk of a request to a spot, if a flow is opened
+abbrev pub flow_to : Aim → Spot → Option Talk
+flow_to aim (At host) = Some (talk_at aim host)
 flow_to aim (Called host) = None
 
-abbrev pub flow_by : Aimed → Option (Flow BodyCore)
+abbrev pub flow_by : Aimed → Option Talk
 flow_by aimeds.Local = None
 flow_by (aimeds.Refused miss) = None
 flow_by (aimeds.Aim aim) = flow_to aim aim.spot
@@ -93,16 +102,17 @@ pub record Clock : Type 0 where
   pub trace : List ℕ
 
 -- the text of what one flow sends, where it is opened at this time under this number
-abbrev pub phase_text : List Row → ℕ → Flow BodyCore → ℕ → ℕ → List ℕ
-phase_text rows round f time opened = trace_text (flow_sends body_acts time round opened rows (Some f))
+abbrev pub phase_text : List Row → ℕ → Talk → ℕ → ℕ → List ℕ
+phase_text rows round talk time opened =
+    trace_text (map (sent_of time round opened talk.label) (talk.sends (arrivals rows round talk.label)))
 
--- after a phase of this flow, if there is one: it ends with its flow
-abbrev pub after_flow : List Row → ℕ → Clock → Option (Flow BodyCore) → Clock
+-- after a phase of this talk, if there is one: it ends with its flow
+abbrev pub after_flow : List Row → ℕ → Clock → Option Talk → Clock
 after_flow rows round t None = t
-after_flow rows round t (Some f) = record {
-  time = t.time + (flow_end body_acts round rows f).moment;
+after_flow rows round t (Some talk) = record {
+  time = t.time + talk.end (arrivals rows round talk.label);
   opened = t.opened + 1;
-  trace = t.trace ++ phase_text rows round f t.time t.opened;
+  trace = t.trace ++ phase_text rows round talk t.time t.opened;
 }
 
 -- after a fetch, and after fetches one after the other

@@ -5,22 +5,20 @@ use Rattle.std.proofs.lemmas.List.{append-nil}
 use Rattle.std.proofs.Math.Seq.{take-append-add}
 use Rattle.bd_dev.specs.Rows.{Row}
 use Rattle.bd_dev.specs.Sink.{Appends, AppendsFront}
-use Rattle.flow.specs.declared.flows.Flow.{Flow}
-use Rattle.find_fetch.specs.declared.body_core.BodyCore.{BodyCore}
 use Rattle.find_fetch.specs.Aim.{aim_of}
-use Rattle.find_fetch.specs.Fetching.{Asked, BreaksOff, Clock, Fetches, HasLeft, HasPassed, Seen, after_fetch, after_fetches, after_flow, clock_of, flow_by, phase_text}
+use Rattle.find_fetch.specs.Fetching.{Asked, BreaksOff, Clock, Fetches, HasLeft, HasPassed, Seen, Talk, after_fetch, after_fetches, after_flow, clock_of, flow_by, phase_text}
 
 -- a clock with more text in front of its trace
 abbrev behind : List ℕ → Clock → Clock
 behind text t = record { time = t.time; opened = t.opened; trace = text ++ t.trace }
 
 -- what a fetch makes of a clock does not depend on the trace so far
-flow_behind : (rows : List Row) (round : ℕ) (text : List ℕ) (t : Clock) (flow : Option (Flow BodyCore))
+flow_behind : (rows : List Row) (round : ℕ) (text : List ℕ) (t : Clock) (flow : Option Talk)
     → after_flow rows round (behind text t) flow ≡ behind text (after_flow rows round t flow)
 flow_behind rows round text t None = refl
-flow_behind rows round text t (Some f) =
-    ap (λ (trace : List ℕ). let c : Clock = record { time = (after_flow rows round t (Some f)).time; opened = t.opened + 1; trace = trace } in c)
-    (append_assoc text t.trace (phase_text rows round f t.time t.opened))
+flow_behind rows round text t (Some talk) =
+    ap (λ (trace : List ℕ). let c : Clock = record { time = (after_flow rows round t (Some talk)).time; opened = t.opened + 1; trace = trace } in c)
+    (append_assoc text t.trace (phase_text rows round talk t.time t.opened))
 
 fetches_behind : (rows : List Row) (text : List ℕ) (t : Clock) (asked : List Asked)
     → after_fetches rows (behind text t) asked ≡ behind text (after_fetches rows t asked)

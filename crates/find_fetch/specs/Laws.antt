@@ -2,15 +2,17 @@
 use Rattle.std.specs.Prelude.{◌≡◌, ◌<◌, ℕ, ◌+◌, max, Some, None}
 use Rattle.bd_dev.specs.declared.net.Arrival.{Arrival}
 use Rattle.flow.specs.Core.{AreLawful, Lasts}
-use Rattle.tftp_client.specs.Core.{HasTftpBegun, tftp_acts}
-use Rattle.tftp_client.specs.Laws.{tftp_lawful}
-use Rattle.tftp_client.specs.declared.tftp_core.TftpCore.{TftpCore}
+use Rattle.waits.specs.Laws.{HasWaiterBegun, IsNewWaiter, exchange_lawful}
+use Rattle.tftp_client.specs.Transfer.{TftpClient, tftp, tftp_acts, tftp_timely}
 use Rattle.find_fetch.specs.Bodies.{HasBodyBegun, IsNewBody, body_acts, body_arrived, body_begun, body_expired, body_flooded}
 use Rattle.find_fetch.specs.declared.body_core.BodyCore.{BodyCore}
 use Rattle.find_fetch.specs.declared.body_core.BodyCore.TheVariants as bodies
 
+tftp_lawful : AreLawful tftp_acts (IsNewWaiter tftp) HasWaiterBegun
+tftp_lawful = exchange_lawful tftp tftp_timely
+
 -- what lasts for the inner client lasts for this one
-lasts_in : (low high : ℕ) (c : TftpCore) → Lasts tftp_acts HasTftpBegun low high c → Lasts body_acts HasBodyBegun low high (bodies.Tftp c)
+lasts_in : (low high : ℕ) (c : TftpClient) → Lasts tftp_acts HasWaiterBegun low high c → Lasts body_acts HasBodyBegun low high (bodies.Tftp c)
 lasts_in low high c h = record { begun = h.begun; few = h.few; due = h.due }
 
 begins : (c : BodyCore) → IsNewBody c → Lasts body_acts HasBodyBegun 0 60000 (body_begun c)

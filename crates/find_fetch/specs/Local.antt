@@ -19,7 +19,7 @@ IsOfLength want (Body bytes) = length bytes ≡ want
 IsOfLength want (Miss (misses.Short found got)) = (found ≡ want) × (got < want)
 IsOfLength want (Miss miss) = ⊥
 
--- Of media that tell nothing: a body is no longer than an installer may be, and a file ended early where fewer bytes
+-- Whatever the devices tell: a body is no longer than an installer may be, and a file ended early where fewer bytes
 -- came than were found, which were no more than an installer may have.
 abbrev pub IsWithinLimit : Fetched → Type 0
 IsWithinLimit (Body bytes) = length bytes ≤ longest

@@ -2,8 +2,9 @@
 
 ghost use Rattle.std.specs.Prelude.{◌≡◌, List, None, Some, IfOk, OnOk};
 ghost use Rattle.bd_dev.specs.Rows.{TimedArrival};
-ghost use Rattle.flow.specs.Own.{own_end, own_sends};
+ghost use Rattle.waits.specs.Waits.{ComesTo};
 ghost use Rattle.find_fetch.specs.Aim.{IsAskable};
+ghost use Rattle.find_fetch.specs.Local.{IsWithinLimit};
 
 use crate::fetched::{Fetched, Miss};
 use crate::request::{Aim, Way};
@@ -20,17 +21,15 @@ pub enum BodyCore {
 }
 
 impl BodyCore {
-    ghost use Rattle.find_fetch.specs.Bodies.{IsNewBody, body_acts, body_result, client_of, found_by, sends_by};
+    ghost use Rattle.find_fetch.specs.Bodies.{IsNewBody, body_acts, body_result, client_of, outcome_of};
 
     /// A client for a request, or `Memory`.
     pub fn new(alloc: Global, aim: &Aim) -> Result<BodyCore, Memory>
         requires { IsAskable aim.now.way }
         ensures client { IfOk result (λ core. core ≡ client_of aim.now) }
         ensures new { IfOk result IsNewBody }
-        ensures finds { IfOk result (λ core. (arrivals : List TimedArrival)
-            → body_result ((own_end body_acts core arrivals).core) ≡ Some (found_by aim.now arrivals)) }
-        ensures sends { IfOk result (λ core. (arrivals : List TimedArrival)
-            → own_sends body_acts core arrivals ≡ sends_by aim.now arrivals) }
+        ensures comes_to { IfOk result (λ core. (comes : List TimedArrival)
+            → ComesTo body_acts body_result core comes (outcome_of aim.now comes)) }
     {
         match &aim.way {
             Way::Tftp { path } => Ok(BodyCore::Tftp(TftpCore::new(
@@ -44,7 +43,8 @@ impl BodyCore {
     /// What a client that is done has found: the whole body, or why there is none.
     pub fn result(self) -> Fetched
         requires { body_acts.deadline self ≡ None }
-        ensures { body_result self ≡ Some result }
+        ensures found { body_result self ≡ Some result }
+        ensures within { IsWithinLimit result }
     {
         match self {
             BodyCore::Tftp(core) => match core.result() {

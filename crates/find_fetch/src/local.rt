@@ -1,52 +1,17 @@
 //! Files of local media.
 
-ghost use Rattle.std.specs.Prelude.{◌≡◌, ◌≢◌, ◌≤◌, Err, length, IfOk};
+ghost use Rattle.std.specs.Prelude.{◌≡◌, ◌≢◌, Err, length, IfOk};
 ghost use Rattle.std.specs.Option.{ForSome};
 ghost use Rattle.bd_dev.specs.Faults.{HasCauseOr};
 ghost use Rattle.bd_dev.specs.Volumes.{bytes_of, file_of};
 ghost use Rattle.find_fetch.specs.Local.{IsOfLength, IsWithinLimit, local_of};
 
 use crate::fetched::{FetchFault, Fetched, Miss};
-use bd_dev::{Bytes, Media};
+use bd_dev::{DevFault, Media, read_file};
 use std::alloc::Global;
 
 /// The longest installer, in bytes.
 const LONGEST: u64 = 33_554_432;
-
-/// A piece of a file, in bytes: what is read of it at a time.
-const PIECE: usize = 65_536;
-
-/// Reads a file to the length that was found, or to its end where that comes first.
-fn read_through<M: Media>(
-    alloc: Global,
-    media: &mut M,
-    volume: &[u8],
-    name: &[u8],
-    want: u64,
-) -> Result<Bytes, FetchFault>
-    ensures bound { IfOk result (λ body. length body ≤ want) }
-    ensures whole { IfOk result (λ body. ForSome (M.content media.old) (λ volumes.
-        length (bytes_of volumes volume.now name.now) ≡ want → body ≡ bytes_of volumes volume.now name.now)) }
-    ensures kept { M.content media.new ≡ M.content media.old }
-    ensures cause { HasCauseOr FetchFault.Media (M.faults media.old) (M.faults media.new) result }
-    ensures no_net { result ≢ Err FetchFault.Net }
-    ensures no_sink { result ≢ Err FetchFault.Sink }
-{
-    let mut piece = [0u8; PIECE];
-    let mut body = Bytes::from_slice(alloc, b"")?;
-    while (body.as_slice().len() as u64) < want {
-        let at = body.as_slice().len() as u64;
-        let Ok(count) = media.read(volume, name, at, &mut piece) else {
-            return Err(FetchFault::Media);
-        };
-        if count == 0 {
-            return Ok(body);
-        }
-        let count = (count as u64).min(want - at) as usize;
-        body.push_slice(&piece[..count])?;
-    }
-    Ok(body)
-}
 
 /// Reads a file of the length that was found.
 fn read_found<M: Media>(
@@ -65,7 +30,11 @@ fn read_found<M: Media>(
     ensures no_net { result ≢ Err FetchFault.Net }
     ensures no_sink { result ≢ Err FetchFault.Sink }
 {
-    let body = read_through(alloc, media, volume, name, want)?;
+    let body = match read_file(alloc, media, volume, name, want) {
+        Ok(body) => body,
+        Err(DevFault::Failed) => return Err(FetchFault::Media),
+        Err(DevFault::Memory) => return Err(FetchFault::Memory),
+    };
     let got = body.as_slice().len() as u64;
     if got < want {
         return Ok(Fetched::Miss(Miss::Short { want, got }));

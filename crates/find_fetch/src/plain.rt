@@ -5,10 +5,11 @@ ghost use Rattle.std.specs.Option.{ForSome};
 ghost use Rattle.bd_dev.specs.Faults.{HasCauseOr};
 ghost use Rattle.bd_dev.specs.Rows.{arrivals};
 ghost use Rattle.bd_dev.specs.Sink.{Appends, AppendsFront};
-ghost use Rattle.flow.specs.Phase.{flow_end, time_limit};
+ghost use Rattle.flow.specs.Phase.{time_limit};
 ghost use Rattle.find_fetch.specs.Aim.{IsAskable, label_of};
-ghost use Rattle.find_fetch.specs.Bodies.{body_acts, found_by};
-ghost use Rattle.find_fetch.specs.Fetching.{flow_at, phase_text};
+ghost use Rattle.find_fetch.specs.Bodies.{outcome_of};
+ghost use Rattle.find_fetch.specs.Fetching.{phase_text, talk_at};
+ghost use Rattle.find_fetch.specs.Local.{IsWithinLimit};
 
 use crate::aiming::aim;
 use crate::body_core::BodyCore;
@@ -50,15 +51,15 @@ fn seek<N: Net, T: Sink>(
     requires early { N.time net.old ≤ 2 ^ 63 }
     requires room { N.opened net.old ≤ 2 ^ 32 - 17 }
     ensures found { IfOk result (λ found. ForSome (N.rows net.old) (λ rows.
-        found ≡ found_by aim.now (arrivals rows round (label_of aim.now host.now)))) }
+        found ≡ (outcome_of aim.now (arrivals rows round (label_of aim.now host.now))).found)) }
     ensures passed { OnOk result (ForSome (N.rows net.old) (λ rows.
-        (N.time net.new ≡ N.time net.old + (flow_end body_acts round rows (flow_at aim.now host.now)).moment)
+        (N.time net.new ≡ N.time net.old + (outcome_of aim.now (arrivals rows round (label_of aim.now host.now))).end)
         × (N.opened net.new ≡ N.opened net.old + 1)
         × Appends (T.taken trace.old) (T.taken trace.new)
-        (phase_text rows round (flow_at aim.now host.now) (N.time net.old) (N.opened net.old)))) }
+        (phase_text rows round (talk_at aim.now host.now) (N.time net.old) (N.opened net.old)))) }
     ensures front { OnErr result (ForSome (N.rows net.old) (λ rows.
         AppendsFront (T.taken trace.old) (T.taken trace.new)
-        (phase_text rows round (flow_at aim.now host.now) (N.time net.old) (N.opened net.old)))) }
+        (phase_text rows round (talk_at aim.now host.now) (N.time net.old) (N.opened net.old)))) }
     ensures rows { N.rows net.new ≡ N.rows net.old }
     ensures closed { (n : ℕ) → N.open_flow net.new n ≡ None }
     ensures most { N.opened net.new ≤ N.opened net.old + 1 }
@@ -66,6 +67,7 @@ fn seek<N: Net, T: Sink>(
     ensures net { HasCauseOr FetchFault.Net (N.faults net.old) (N.faults net.new) result }
     ensures trace { HasCauseOr FetchFault.Sink (T.faults trace.old) (T.faults trace.new) result }
     ensures no_media { result ≢ Err FetchFault.Media }
+    ensures within { IfOk result IsWithinLimit }
 {
     let label = body_label(alloc, aim, host)?;
     let core = BodyCore::new(alloc, aim)?;
@@ -92,6 +94,18 @@ impl<'a, N: Net, M: Media, T: Sink> Fetcher for Plain<'a, N, M, T> {
     ghost net_faults = { λ p. N.faults p.net.now };
 
     ghost trace_faults = { λ p. T.faults p.trace.now };
+
+    ghost OfNet = { N };
+
+    ghost OfMedia = { M };
+
+    ghost OfTrace = { T };
+
+    ghost net_value = { λ p. p.net.now };
+
+    ghost media_value = { λ p. p.media.now };
+
+    ghost trace_value = { λ p. p.trace.now };
 
     ghost Made = { λ before asked after. (after.net.ghost_name ≡ before.net.ghost_name)
         × (after.media.ghost_name ≡ before.media.ghost_name) × (after.trace.ghost_name ≡ before.trace.ghost_name)

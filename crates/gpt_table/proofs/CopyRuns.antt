@@ -5,17 +5,17 @@ use Rattle.bd_dev.specs.declared.plant.Area.TheVariants.{Disk}
 use Rattle.bd_dev.specs.Content.{Image, SameSector, window}
 use Rattle.bd_dev.specs.Plant.{View}
 use Rattle.bd_dev.proofs.Windows.{at_byte, same_window}
-use Rattle.cuts.specs.Copies.{AgreesOffTable, KeepsOffTable, OffCopies, OffTable, TouchesCopies}
+use Rattle.storage_model.specs.Copies.{AgreesOffTable, KeepsOffTable, OffCopies, OffTable, TouchesCopies, other_copy}
 use Rattle.gpt_copy.specs.declared.table.Table.{Table}
 use Rattle.gpt_copy.specs.declared.table.Which.{Which}
 use Rattle.gpt_copy.specs.declared.table.Which.TheVariants.{Primary, Backup}
 use Rattle.gpt_copy.specs.Copy.{reading}
-use Rattle.plant_runs.specs.Runs.{Looks}
-use Rattle.plant_runs.specs.Touching.{AgreesOutside, IsWritten, KeepsSynced, Touches}
-use Rattle.plant_runs.proofs.Joins.{continues_then, leaves_then, reads_then, same_sector_trans}
-use Rattle.plant_runs.proofs.Touch.{leaves_weaker, reads_weaker, touch_look}
+use Rattle.bd_dev.specs.Runs.{Looks}
+use Rattle.bd_dev.specs.Touching.{AgreesOutside, IsWritten, KeepsSynced, Touches}
+use Rattle.bd_dev.proofs.Joins.{continues_then, leaves_then, reads_then, same_sector_trans}
+use Rattle.bd_dev.proofs.Touch.{leaves_weaker, reads_weaker, touch_look}
 use Rattle.storage_model.specs.Disk.{copy_lba, copy_of}
-use Rattle.gpt_table.specs.Copies.{IsCopyWritten, other_copy}
+use Rattle.gpt_table.specs.Copies.{IsCopyWritten}
 
 -- a sector of a copy
 abbrev InCopy : Which → ℕ → ℕ → Type 0

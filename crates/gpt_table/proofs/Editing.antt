@@ -1,6 +1,7 @@
 -- What a change of one entry leaves, and that a refusal has one reason.
-use Rattle.std.proofs.Common.{◌≡◌, ◌≢◌, ◌⊎◌, inl, inr, ⊎_elim, ℕ, ◌+◌, ◌-◌, ◌<◌, length, get_or, slice_get, Some, refl, sym, ◌∙◌, ap, subst, arith}
+use Rattle.std.proofs.Common.{◌≡◌, ◌≢◌, ◌⊎◌, inl, inr, ⊎_elim, ℕ, ◌+◌, ◌-◌, ◌<◌, length, replicate, get_or, slice_get, Some, refl, sym, ◌∙◌, ap, subst, arith}
 use Rattle.std.proofs.lemmas.Bool.{cases_eq, cases_lt, cases_order}
+use Rattle.std.proofs.lemmas.List.{get_or-replicate, length-replicate}
 use Rattle.std.proofs.lemmas.Option.{get_or_from_slice_get, slice_get_within}
 use Rattle.bd_dev.proofs.Places.{slice_get-set_other, slice_get-set_same}
 use Rattle.bd_text.specs.declared.guid.Guid.{Guid}
@@ -9,7 +10,7 @@ use Rattle.gpt_copy.specs.declared.table.Table.{Table}
 use Rattle.storage_model.specs.Entries.{AreApart, HasEntry, IsSane, IsWithin, unused_type}
 use Rattle.gpt_table.specs.declared.edits.EditFault.{EditFault}
 use Rattle.gpt_table.specs.declared.edits.EditFault.TheVariants.{GuidUsed, NoEntry, NumberUsed, Overlap, Range, TableFull}
-use Rattle.gpt_table.specs.Edits.{FitsAt, HasGuid, IsNumber, IsUnused, IsUsed, RefusesAddition, RefusesChange, RefusesEntry, RefusesGuid, RefusesPlace, TakesPlace, with_entry}
+use Rattle.gpt_table.specs.Edits.{FitsAt, HasGuid, IsNumber, IsUnused, IsUsed, RefusesAddition, RefusesChange, RefusesEntry, RefusesGuid, RefusesPlace, TakesPlace, emptied, unused_entry, with_entry}
 
 -- an entry can stand at a place, beside those at the others
 pub record Beside (t : Table) (i : ℕ) (e : Entry) : Type 0 where
@@ -67,6 +68,31 @@ sane_with t i e sane lt fits = record {
     within_as f is used =
         let w = (beside f is used).within in
         subst (λ (x : Entry). IsWithin (with_entry t i e) x) (sym is) (record { from = w.from; ordered = w.ordered; until = w.until })
+
+-- one entry alone
+
+none_used : (t : Table) (i : ℕ) (e : Entry) → HasEntry (emptied t) i e → ⊥
+none_used t i e has =
+    let lt : i < 128 = subst (λ (n : ℕ). i < n) (length-replicate 128 unused_entry) (slice_get_within (replicate 128 unused_entry) i e has.is) in
+    let read : get_or (replicate 128 unused_entry) i e ≡ e = get_or_from_slice_get (replicate 128 unused_entry) i e e has.is in
+    let same : unused_entry ≡ e = sym (get_or-replicate 128 i unused_entry e lt) ∙ read in
+    has.used (ap (λ (x : Entry). x.kind) (sym same))
+
+sane_emptied : (t : Table) → IsSane (emptied t)
+sane_emptied t = record {
+  within = λ i e has. absurd (none_used t i e has);
+  apart = λ i j e f has other ne. absurd (none_used t i e has);
+  different = λ i j e f has other ne. absurd (none_used t i e has);
+}
+
+pub sane_alone : (t : Table) (i : ℕ) (old e : Entry) → IsSane t → i < 128 → HasEntry t i old → e ≡ old → IsSane (with_entry (emptied t) i e)
+sane_alone t i old e sane lt has same =
+    let w = sane.within i old has in
+    sane_with (emptied t) i e (sane_emptied t) (subst (λ (n : ℕ). i < n) (sym (length-replicate 128 unused_entry)) lt) (λ used. subst (Beside (emptied t) i) (sym same) (record {
+      within = record { from = w.from; ordered = w.ordered; until = w.until };
+      apart = λ j f other ne. absurd (none_used t j f other);
+      different = λ j f other ne. absurd (none_used t j f other);
+    }))
 
 -- what is tested at an addition is enough
 pub beside_of : (t : Table) (i : ℕ) (e : Entry) → FitsAt t i e → Beside t i e

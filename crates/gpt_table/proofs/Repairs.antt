@@ -1,20 +1,20 @@
 -- The lesser copy, written from the table.
 use Rattle.std.proofs.Common.{◌≡◌, inl, inr, ⊎_elim, ℕ, ◌-◌, ◌/◌, ◌≤◌, Option, Some, None, IfSome, refl, sym, subst, ◌∙◌, ap, arith}
+use Rattle.std.proofs.lemmas.Option.{same_Some}
 use Rattle.bd_dev.specs.declared.plant.Area.TheVariants.{Disk}
 use Rattle.bd_dev.specs.Content.{Image}
 use Rattle.bd_dev.specs.Plant.{View, IsImage, IsSynced, OnlyReads}
 use Rattle.bd_dev.proofs.Windows.{at_byte}
-use Rattle.cuts.specs.Copies.{HasSameTable, IsCleanOpening, MayBeCopy, ReadsBoth, TouchesCopies}
+use Rattle.storage_model.specs.Copies.{HasSameTable, IsCleanOpening, MayBeCopy, ReadsBoth, TouchesAtMost, TouchesCopies, TouchesLesser, other_copy}
 use Rattle.gpt_copy.specs.declared.table.Table.{Table}
 use Rattle.gpt_copy.specs.declared.table.Which.{Which}
 use Rattle.gpt_copy.specs.declared.table.Which.TheVariants.{Primary, Backup}
 use Rattle.gpt_copy.specs.Copy.{FitsDisk}
-use Rattle.plant_runs.specs.Runs.{LeavesOnly, Looks, ReadsOnly}
-use Rattle.plant_runs.specs.Touching.{AgreesOutside, KeepsSynced, Touches}
-use Rattle.plant_runs.proofs.Joins.{leaves_then, reads_then}
-use Rattle.plant_runs.proofs.Touch.{leaves_weaker, reads_weaker}
-use Rattle.storage_model.specs.Disk.{copy_lba, copy_of, found, table_of}
-use Rattle.gpt_table.specs.Copies.{other_copy}
+use Rattle.bd_dev.specs.Runs.{LeavesOnly, Looks, ReadsOnly}
+use Rattle.bd_dev.specs.Touching.{AgreesOutside, KeepsSynced, Touches}
+use Rattle.bd_dev.proofs.Joins.{leaves_then, reads_then}
+use Rattle.bd_dev.proofs.Touch.{leaves_weaker, reads_weaker, touch_look, touch_then}
+use Rattle.storage_model.specs.Disk.{Found, copy_lba, copy_of, found, table_of}
 use Rattle.gpt_table.proofs.CopyRuns.{copies_then, look_touches, other_agrees, other_stands, touches_copies}
 use Rattle.gpt_table.proofs.Finding.{found_tells, table_backup, table_found, table_primary}
 use Rattle.gpt_table.proofs.Replacements.{Writes, fits_large}
@@ -150,9 +150,17 @@ module _ (size : ℕ) (lesser from : Which) (t : Table) (u v w : View) (is : siz
   pub repair_touches : Touches Disk (copy_lba lesser size) 33 v w → TouchesCopies u w
   repair_touches touches = copies_then u v w (look_touches u v looks) (touches_copies lesser size v w (is ∙ sym (looks.continues.size Disk)) large touches)
 
+  pub repair_lesser : Touches Disk (copy_lba lesser size) 33 v w → Touches Disk (copy_lba (other_copy from) (u.size Disk)) 33 u w
+  repair_lesser touches = touch_then Disk (copy_lba (other_copy from) (u.size Disk)) 33 u v w (touch_look Disk (copy_lba (other_copy from) (u.size Disk)) 33 u v looks)
+      (subst (λ (T : Type 0). T) (λ i. Touches Disk (copy_lba (other i) (is i)) 33 v w) touches)
+
   pub repair_reads : u.tells → found (u.size Disk) (u.reads Disk) ≡ Some (record { table = t; copy = from }) → Writes lesser size t v w → copy_of lesser size (w.reads Disk) ≡ Some t → ReadsBoth (u.size Disk) (w.reads Disk) t
   repair_reads tells was writes there = subst (λ (n : ℕ). ReadsBoth n (w.reads Disk) t) is
       (write_reads size t large from v w (looks.continues.still_tells tells) (found_then tells was) (writes_other writes).touches (subst (λ (which : Which). copy_of which size (w.reads Disk) ≡ Some t) other there))
+
+-- a run that touches the lesser copy alone
+lesser_of : (u w : View) (f : Found) → Touches Disk (copy_lba (other_copy f.copy) (u.size Disk)) 33 u w → u.tells → TouchesAtMost (other_copy f.copy) u w
+lesser_of u w f touches tells = let run = touches.told tells in record { reads = run.reads; unsynced = run.unsynced; crash = run.crash }
 
 -- the disk was looked at, and then repaired
 module _ (u v w : View) (looks : Looks u v) where
@@ -177,3 +185,16 @@ module _ (u v w : View) (looks : Looks u v) where
         };
         writes = second.writes ∙ first.writes;
       }
+
+  -- at most the lesser copy is touched
+
+  pub open_look : u.tells → TouchesLesser u v
+  open_look tells f is = lesser_of u v f (touch_look Disk (copy_lba (other_copy f.copy) (u.size Disk)) 33 u v looks) tells
+
+  pub open_lesser : u.tells → (t : Table) (from : Which) → found (u.size Disk) (u.reads Disk) ≡ Some (record { table = t; copy = from })
+      → Touches Disk (copy_lba (other_copy from) (v.size Disk)) 33 v w → TouchesLesser u w
+  open_lesser tells t from here touches f is =
+      let same : from ≡ f.copy = (let both : Some (record { table = t; copy = from }) ≡ Some f = sym here ∙ is in ap (λ (x : Found). x.copy) (same_Some (record { table = t; copy = from }) f both)) in
+      let then = subst (λ (n : ℕ). Touches Disk (copy_lba (other_copy from) n) 33 v w) (looks.continues.size Disk) touches in
+      lesser_of u w f (subst (λ (which : Which). Touches Disk (copy_lba (other_copy which) (u.size Disk)) 33 u w) same
+      (touch_then Disk (copy_lba (other_copy from) (u.size Disk)) 33 u v w (touch_look Disk (copy_lba (other_copy from) (u.size Disk)) 33 u v looks) then)) tells

@@ -3,15 +3,15 @@ use Rattle.std.proofs.Common.{◌≡◌, ◌⊎◌, inl, inr, ⊎_elim, ℕ, ◌
 use Rattle.bd_dev.specs.declared.plant.Area.TheVariants.{Disk}
 use Rattle.bd_dev.specs.Content.{Image}
 use Rattle.bd_dev.specs.Plant.{View, IsSynced}
-use Rattle.cuts.specs.Copies.{AreCopiesSynced, IsCleanBetween, IsEitherTable, OffCopies, OneOf, ReadsBoth, TouchesCopies}
+use Rattle.storage_model.specs.Copies.{AreCopiesSynced, IsCleanBetween, IsEitherTable, OffCopies, OneOf, ReadsBoth, TouchesCopies}
 use Rattle.gpt_copy.specs.declared.table.Table.{Table}
 use Rattle.gpt_copy.specs.declared.table.Which.{Which}
 use Rattle.gpt_copy.specs.declared.table.Which.TheVariants.{Primary, Backup}
 use Rattle.gpt_copy.specs.Copy.{FitsDisk}
-use Rattle.plant_runs.specs.Runs.{LeavesOnly, ReadsOnly}
-use Rattle.plant_runs.specs.Touching.{Touches}
-use Rattle.plant_runs.proofs.Joins.{leaves_then, reads_then}
-use Rattle.plant_runs.proofs.Touch.{leaves_weaker, reads_weaker}
+use Rattle.bd_dev.specs.Runs.{LeavesOnly, ReadsOnly}
+use Rattle.bd_dev.specs.Touching.{Touches}
+use Rattle.bd_dev.proofs.Joins.{leaves_then, reads_then}
+use Rattle.bd_dev.proofs.Touch.{leaves_weaker, reads_weaker}
 use Rattle.storage_model.specs.Disk.{copy_lba, copy_of, table_of}
 use Rattle.gpt_table.specs.Copies.{IsCopyWritten, IsPrimaryFirst}
 use Rattle.gpt_table.proofs.CopyRuns.{copies_then, other_agrees, other_stands, touches_copies}

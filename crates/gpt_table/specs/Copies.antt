@@ -5,13 +5,8 @@ use Rattle.bd_dev.specs.declared.plant.Area.TheVariants.{Disk}
 use Rattle.gpt_copy.specs.declared.table.Table.{Table}
 use Rattle.gpt_copy.specs.declared.table.Which.{Which}
 use Rattle.gpt_copy.specs.declared.table.Which.TheVariants.{Primary, Backup}
-use Rattle.plant_runs.specs.Touching.{AgreesOutside}
+use Rattle.bd_dev.specs.Touching.{AgreesOutside}
 use Rattle.storage_model.specs.Disk.{copy_lba, copy_of}
-
--- the other of the two
-abbrev pub other_copy : Which → Which
-other_copy Primary = Backup
-other_copy Backup = Primary
 
 -- while the table is replaced: the backup is what it was, or the primary is the new table already
 abbrev pub IsPrimaryFirst : ℕ → Table → Table → Image → Type 0

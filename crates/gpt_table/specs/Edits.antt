@@ -93,3 +93,14 @@ pub record Adds (t : Table) (number : ℕ) (e : Entry) (answer : ℕ) (after : T
   pub from : 0 < answer
   pub place : TakesPlace t number (answer - 1)
   pub is : after ≡ with_entry t (answer - 1) e
+
+-- a table without used entries, of the same disk with the same usable range
+abbrev pub emptied : Table → Table
+emptied t = record t { entries = replicate 128 unused_entry }
+
+-- the entry of a number stands alone, at its place, and nothing else has changed
+pub record KeepsAlone (t : Table) (number : ℕ) (after : Table) : Type 0 where
+  pub from : 0 < number
+  pub entry : Entry
+  pub has : HasEntry t (number - 1) entry
+  pub is : after ≡ with_entry (emptied t) (number - 1) entry

@@ -1,18 +1,18 @@
 //! The two copies, each read and written.
 
-ghost use Rattle.std.specs.Prelude.{◌≡◌, ◌⊎◌, ◌≤◌, ◌+◌, ◌-◌, ◌↔◌, IsTrue, Some, IfOk, IfSome, OnOk};
+ghost use Rattle.std.specs.Prelude.{◌≡◌, ◌⊎◌, ◌≤◌, ◌<◌, ◌+◌, ◌-◌, ◌↔◌, ℕ, false, IsTrue, Some, IfOk, IfSome, OnOk};
 ghost use Rattle.bd_dev.specs.declared.plant.Area.TheVariants.{Disk};
 ghost use Rattle.bd_dev.specs.Faults.{HasCause};
 ghost use Rattle.bd_dev.specs.Plant.{IsSynced};
 ghost use Rattle.gpt_copy.specs.Copy.{FitsDisk};
-ghost use Rattle.plant_runs.specs.Runs.{Looks, ReadsOnly};
-ghost use Rattle.plant_runs.specs.Touching.{Touches};
+ghost use Rattle.bd_dev.specs.Runs.{Looks, ReadsOnly, WritesAtMost};
+ghost use Rattle.bd_dev.specs.Touching.{Touches};
 ghost use Rattle.storage_model.specs.Disk.{copy_lba, copy_of};
-ghost use Rattle.gpt_table.specs.Copies.{IsCopyWritten, other_copy};
+ghost use Rattle.storage_model.specs.Copies.{OffCopies, other_copy, touches_copies};
+ghost use Rattle.gpt_table.specs.Copies.{IsCopyWritten};
 
-use bd_dev::{Area, Failed, Plant};
+use bd_dev::{Area, Failed, Plant, read_sectors, write_through};
 use gpt_copy::{Table, Which, read_copy, write_copy};
-use plant_runs::{read_sectors, write_through};
 
 /// The address of a copy's first sector.
 fn first_sector(which: Which, sectors: u64) -> u64
@@ -24,6 +24,18 @@ fn first_sector(which: Which, sectors: u64) -> u64
         Which::Primary => 1,
         Which::Backup => sectors - 33,
     }
+}
+
+/// Whether so many sectors from an address on, which lie within a disk, touch a copy of the table: sectors 1 to 33, or
+/// the last 33.
+pub fn touches_copy(sectors: u64, lba: u64, count: u64) -> bool
+    requires within { lba + count ≤ sectors }
+    requires room { 68 ≤ sectors }
+    ensures is { result ≡ touches_copies sectors lba count }
+    ensures off { result ≡ false → (q : ℕ) → lba ≤ q → q < lba + count → OffCopies sectors q }
+    ensures part { result ≡ false → (first n : ℕ) → lba ≤ first → first + n ≤ lba + count → touches_copies sectors first n ≡ false }
+{
+    lba < 34 && 1 < lba + count || sectors - 33 < lba + count
 }
 
 /// The other of the two copies.
@@ -76,6 +88,7 @@ pub(crate) fn write_table<P: Plant>(
     ensures touches { Touches Disk (copy_lba which sectors) 33 (P.view plant.old) (P.view plant.new) }
     ensures between { (P.view plant.old).tells → ReadsOnly (P.view plant.old) (P.view plant.new)
         (λ c. (c ≡ (P.view plant.old).reads) ⊎ IsCopyWritten which sectors table.now (P.view plant.old).reads c) }
+    ensures wears { (P.view plant.old).tells → WritesAtMost Disk 33 (P.view plant.old) (P.view plant.new) }
     ensures cause { HasCause (P.view plant.old).faults (P.view plant.new).faults result }
 {
     let mut bytes = [0; 16896];

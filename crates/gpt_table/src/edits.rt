@@ -3,7 +3,7 @@
 ghost use Rattle.std.specs.Prelude.{◌≡◌, ◌≢◌, ◌+◌, ◌<◌, ◌↔◌, ℕ, IsTrue, Err, None, IfErr, IfOk, IfSome, OnErr, OnOk, length};
 ghost use Rattle.gpt_copy.specs.declared.table.Entry.{Entry};
 ghost use Rattle.storage_model.specs.Entries.{HasEntry, IsSane, unused_type};
-ghost use Rattle.gpt_table.specs.Edits.{Adds, Changes, FitsAt, HasGuid, HasGuidAt, IsNumber, IsUnused, IsUsed, Overlaps, RefusesAddition, RefusesChange, RefusesEntry, RefusesGuid, RefusesPlace, TakesPlace, unused_entry};
+ghost use Rattle.gpt_table.specs.Edits.{Adds, Changes, FitsAt, HasGuid, HasGuidAt, IsNumber, IsUnused, IsUsed, KeepsAlone, Overlaps, RefusesAddition, RefusesChange, RefusesEntry, RefusesGuid, RefusesPlace, TakesPlace, unused_entry};
 ghost use Rattle.gpt_table.specs.declared.edits.EditFault.{EditFault};
 
 use crate::sanity::{is_used, is_within};
@@ -198,6 +198,24 @@ pub fn delete(table: &mut Table, number: usize) -> Result<(), EditFault>
 {
     let place = used_place(table, number)?;
     table.entries[place] = UNUSED;
+    Ok(())
+}
+
+/// Keeps the entry of a number alone, under its number: all bytes of all others are zero then.
+///
+/// Answers `NoEntry` where no used entry has the number; the table is then unchanged.
+pub fn keep_alone(table: &mut Table, number: usize) -> Result<(), EditFault>
+    requires sane { IsSane table.old }
+    ensures alone { OnOk result (KeepsAlone table.old number table.new) }
+    ensures refused { IfErr result (RefusesChange table.old number) }
+    ensures only { (fault : EditFault) → RefusesChange table.old number fault → result ≡ Err fault }
+    ensures unchanged { OnErr result (table.new ≡ table.old) }
+    ensures sane { IsSane table.new }
+{
+    let place = used_place(table, number)?;
+    let entry = table.entries[place];
+    table.entries = [UNUSED; 128];
+    table.entries[place] = entry;
     Ok(())
 }
 

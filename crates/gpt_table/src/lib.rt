@@ -8,7 +8,7 @@
 //! of the two leaves the table that there was, or of [`replace`] the new one, and all sectors off the copies as they
 //! were. This rests on one premise, that no torn copy passes for a further table.
 //!
-//! [`add`], [`delete`], [`retype`], [`renumber`] and [`rename`] change a table in memory, and keep it sane.
+//! [`add`], [`delete`], [`keep_alone`], [`retype`], [`renumber`] and [`rename`] change a table in memory, and keep it sane.
 //! [`free_run`], [`largest_run`] and [`new_guid`] find room and a GUID for an entry. No call takes memory.
 #![tactic(auto)]
 
@@ -21,7 +21,8 @@ mod replacing;
 mod runs;
 mod sanity;
 
-pub use edits::{EditFault, add, delete, rename, renumber, retype};
+pub use copies::touches_copy;
+pub use edits::{EditFault, add, delete, keep_alone, rename, renumber, retype};
 pub use guids::new_guid;
 pub use looking::{GptFault, look};
 pub use opening::open;

@@ -4,7 +4,7 @@ ghost use Rattle.std.specs.Prelude.{◌≡◌, ◌-◌, Some, None, Err, IfOk};
 ghost use Rattle.bd_dev.specs.declared.plant.Area.TheVariants.{Disk};
 ghost use Rattle.bd_dev.specs.Faults.{HasCauseOr};
 ghost use Rattle.gpt_copy.specs.Copy.{FitsDisk};
-ghost use Rattle.plant_runs.specs.Runs.{Looks};
+ghost use Rattle.bd_dev.specs.Runs.{Looks};
 ghost use Rattle.storage_model.specs.Disk.{found};
 
 use crate::copies::read_table;

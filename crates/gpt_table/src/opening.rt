@@ -4,11 +4,12 @@ ghost use Rattle.std.specs.Prelude.{◌≡◌, ◌-◌, Some, None, Err, IfOk, O
 ghost use Rattle.bd_dev.specs.declared.plant.Area.TheVariants.{Disk};
 ghost use Rattle.bd_dev.specs.Faults.{HasCause, HasCauseOr};
 ghost use Rattle.bd_dev.specs.Plant.{IsSynced, OnlyReads};
-ghost use Rattle.cuts.specs.Copies.{HasSameTable, IsCleanOpening, ReadsBoth, TouchesCopies};
+ghost use Rattle.storage_model.specs.Copies.{HasSameTable, IsCleanOpening, ReadsBoth, TouchesCopies, TouchesLesser, other_copy};
 ghost use Rattle.gpt_copy.specs.declared.table.Table.{Table};
 ghost use Rattle.gpt_copy.specs.Copy.{FitsDisk};
-ghost use Rattle.plant_runs.specs.Runs.{LeavesOnly, ReadsOnly};
-ghost use Rattle.storage_model.specs.Disk.{found, table_of};
+ghost use Rattle.bd_dev.specs.Runs.{LeavesOnly, ReadsOnly, WritesAtMost};
+ghost use Rattle.bd_dev.specs.Touching.{Touches};
+ghost use Rattle.storage_model.specs.Disk.{copy_lba, found, table_of};
 
 use crate::copies::{is_table, other_of, read_table, write_table};
 use crate::looking::{GptFault, look};
@@ -28,6 +29,8 @@ fn repair<P: Plant>(plant: &mut P, table: &Table, read_from: Which) -> Result<()
         (λ c. IsCleanOpening ((P.view plant.old).size Disk) (P.view plant.old).reads c
         × HasSameTable ((P.view plant.old).size Disk) (P.view plant.old).reads c) }
     ensures touches { TouchesCopies (P.view plant.old) (P.view plant.new) }
+    ensures lesser { Touches Disk (copy_lba (other_copy read_from) ((P.view plant.old).size Disk)) 33 (P.view plant.old) (P.view plant.new) }
+    ensures wears { (P.view plant.old).tells → WritesAtMost Disk 33 (P.view plant.old) (P.view plant.new) }
     ensures synced { (P.view plant.old).tells → OnOk result (IsSynced (P.view plant.new) Disk) }
     ensures both { (P.view plant.old).tells → OnOk result
         (ReadsBoth ((P.view plant.old).size Disk) ((P.view plant.new).reads Disk) table.now) }
@@ -45,12 +48,12 @@ fn repair<P: Plant>(plant: &mut P, table: &Table, read_from: Which) -> Result<()
 }
 
 /// The disk's table, as [`look`] gives it. Where the other copy is not readable or is another table, that copy is
-/// written from the table and the disk synced; bytes that are part of no table are not compared. Nothing on the disk
-/// may be unsynced before.
+/// written from the table and the disk synced; bytes that are part of no table are not compared. Where both copies are
+/// one table nothing is written. Nothing on the disk may be unsynced before.
 ///
 /// A power cut at any moment leaves the disk's table as it was, unless it leaves a torn copy that passes for another
-/// table. It leaves all sectors off the copies as they were. After Ok both copies read as the table, and nothing on the
-/// disk is unsynced.
+/// table. It leaves all else as it was, the copy that the table is read from too. After Ok both copies read as the
+/// table, and nothing on the disk is unsynced. At most 33 sectors are written.
 ///
 /// Answers `NoTable` exactly where neither copy is readable or the disk has fewer than 68 sectors: nothing is written
 /// then. Answers `Fault` where the plant fails.
@@ -70,6 +73,8 @@ pub fn open<P: Plant>(plant: &mut P) -> Result<Table, GptFault>
         (λ c. IsCleanOpening ((P.view plant.old).size Disk) (P.view plant.old).reads c
         × HasSameTable ((P.view plant.old).size Disk) (P.view plant.old).reads c) }
     ensures touches { TouchesCopies (P.view plant.old) (P.view plant.new) }
+    ensures lesser { (P.view plant.old).tells → TouchesLesser (P.view plant.old) (P.view plant.new) }
+    ensures wears { (P.view plant.old).tells → WritesAtMost Disk 33 (P.view plant.old) (P.view plant.new) }
     ensures synced { (P.view plant.old).tells → OnOk result (IsSynced (P.view plant.new) Disk) }
     ensures both { (P.view plant.old).tells → IfOk result
         (ReadsBoth ((P.view plant.old).size Disk) ((P.view plant.new).reads Disk)) }

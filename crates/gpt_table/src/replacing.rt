@@ -4,10 +4,10 @@ ghost use Rattle.std.specs.Prelude.{◌-◌, OnOk};
 ghost use Rattle.bd_dev.specs.declared.plant.Area.TheVariants.{Disk};
 ghost use Rattle.bd_dev.specs.Faults.{HasCause};
 ghost use Rattle.bd_dev.specs.Plant.{IsSynced};
-ghost use Rattle.cuts.specs.Copies.{AreCopiesSynced, IsCleanBetween, IsEitherTable, ReadsBoth, TouchesCopies};
+ghost use Rattle.storage_model.specs.Copies.{AreCopiesSynced, IsCleanBetween, IsEitherTable, ReadsBoth, TouchesCopies};
 ghost use Rattle.gpt_copy.specs.declared.table.Table.{Table};
 ghost use Rattle.gpt_copy.specs.Copy.{FitsDisk};
-ghost use Rattle.plant_runs.specs.Runs.{LeavesOnly, ReadsOnly};
+ghost use Rattle.bd_dev.specs.Runs.{LeavesOnly, ReadsOnly, WritesAtMost};
 ghost use Rattle.gpt_table.specs.Copies.{IsPrimaryFirst};
 
 use crate::copies::write_table;
@@ -19,7 +19,7 @@ use gpt_copy::{Table, Which};
 ///
 /// A power cut at any moment leaves the table before or this one, unless it leaves a torn copy that passes for a third
 /// table. It leaves all sectors off the copies as they were. After Ok both copies read as this table, and nothing on
-/// the disk is unsynced.
+/// the disk is unsynced. At most 66 sectors are written.
 ///
 /// Answers `Failed` where the plant fails: then [`open`](crate::open) finds the table before or this one.
 ///
@@ -36,6 +36,7 @@ pub fn replace<P: Plant>(plant: &mut P, table: &Table) -> Result<(), Failed>
     ensures ordered { (P.view plant.old).tells → (before : Table) → ReadsBoth ((P.view plant.old).size Disk) ((P.view plant.old).reads Disk) before
         → LeavesOnly (P.view plant.old) (P.view plant.new) (IsPrimaryFirst ((P.view plant.old).size Disk) before table.now) }
     ensures touches { TouchesCopies (P.view plant.old) (P.view plant.new) }
+    ensures wears { (P.view plant.old).tells → WritesAtMost Disk 66 (P.view plant.old) (P.view plant.new) }
     ensures synced { (P.view plant.old).tells → OnOk result (IsSynced (P.view plant.new) Disk) }
     ensures both { (P.view plant.old).tells → OnOk result
         (ReadsBoth ((P.view plant.old).size Disk) ((P.view plant.new).reads Disk) table.now) }

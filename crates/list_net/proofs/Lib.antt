@@ -1,4 +1,2 @@
-mod Standing
-mod Firsts
 mod Reading
-mod Playing
+mod Spotting

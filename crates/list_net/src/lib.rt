@@ -5,8 +5,7 @@
 //! the calls that are to fail are given by their numbers.
 #![tactic(auto)]
 
-mod cursor;
-mod earliest;
+mod list_feeds;
 mod list_net;
 mod list_row;
 #[cfg(test)]

@@ -1,19 +1,18 @@
 //! A network in memory.
 
-ghost use Rattle.std.specs.Prelude.{◌≡◌, ℕ, ◌+◌, ◌-◌, ◌^◌, ◌<◌, ◌≤◌, ◌↔◌, ◌++◌, ◌∷◌, [], Some, None, Err, length, map, slice_set, IfOk, OnOk, OnErr};
+ghost use Rattle.std.specs.Prelude.{◌≡◌, ℕ, ◌+◌, ◌-◌, ◌^◌, ◌<◌, ◌≤◌, ◌↔◌, ◌++◌, ◌∷◌, [], Some, Err, length, map, IfOk, OnOk, OnErr};
 ghost use Rattle.std.specs.Option.{ForSome};
 ghost use Rattle.bd_dev.specs.Calls.{IsListed, after_call, no_calls};
 ghost use Rattle.bd_dev.specs.Faults.{HasCauseOr, is_failed};
 ghost use Rattle.bd_dev.specs.Rows.{in_order};
 ghost use Rattle.bd_dev.specs.Net.{Answers, Closes, IsEarliest, Opens, Posts};
 ghost use Rattle.list_net.specs.Rows.{outgoing_of, row_of};
-ghost use Rattle.list_net.specs.Cursors.{AdvancesAt, WaitsAt};
-ghost use Rattle.list_net.specs.Network.{IsPicked, flow_at};
+ghost use Rattle.arrival_player.specs.Played.{IsPicked, flow_at};
 
-use crate::cursor::Cursor;
-use crate::earliest::earliest;
-use crate::list_row::{ListRow, ordered};
-use bd_dev::{Arrival, Bytes, CallCounter, DevFault, Memory, Net, Next};
+use crate::list_feeds::ListFeeds;
+use crate::list_row::ListRow;
+use arrival_player::Player;
+use bd_dev::{Bytes, CallCounter, DevFault, Memory, Net, Next};
 use std::alloc::Global;
 use std::marker::Model;
 
@@ -33,34 +32,27 @@ pub struct ListSend {
 /// A network that plays rows.
 #[derive(Drop)]
 pub struct ListNet {
-    // In order of time.
-    rows: Vec<ListRow>,
-    late: bool,
-    time: u64,
-    // By their numbers; a closed one is None.
-    flows: Vec<Option<Cursor>>,
+    player: Player<ListFeeds>,
     sent: Vec<ListSend>,
     calls: CallCounter,
     alloc: Global,
 }
 
 impl Model for ListNet {
-    ghost use Rattle.std.specs.Prelude.{map, length, ◌<◌, ◌^◌};
-    ghost use Rattle.list_net.specs.Rows.{outgoing_of, row_of};
-    ghost use Rattle.list_net.specs.Network.{NetInMemory, IsSound, flows_of};
+    ghost use Rattle.std.specs.Prelude.{map};
+    ghost use Rattle.list_net.specs.Rows.{outgoing_of};
+    ghost use Rattle.list_net.specs.Network.{NetInMemory};
 
     ghost Value = { NetInMemory };
 
     ghost view = { λ n. record {
-      rows = map row_of n.rows.items;
-      late = n.late;
-      time = n.time;
-      flows = flows_of (map row_of n.rows.items) n.flows.items;
+      rows = n.player.rows;
+      late = n.player.late;
+      time = n.player.time;
+      flows = n.player.flows;
       sent = map outgoing_of n.sent.items;
       calls = n.calls;
     } };
-
-    ghost invariant = { λ n. IsSound (map row_of n.rows.items) n.flows.items n.time };
 }
 
 impl ListNet {
@@ -83,11 +75,9 @@ impl ListNet {
           calls = no_calls fails.now;
         }) }
     {
+        let feeds = ListFeeds::new(alloc, rows)?;
         Ok(ListNet {
-            rows: ordered(alloc, rows)?,
-            late,
-            time: 0,
-            flows: Vec::new(alloc),
+            player: Player::new(alloc, feeds, late),
             sent: Vec::new(alloc),
             calls: CallCounter::new(alloc, fails)?,
             alloc,
@@ -103,7 +93,7 @@ impl ListNet {
 }
 
 impl Net for ListNet {
-    ghost use Rattle.list_net.specs.Flows.{flow_past};
+    ghost use Rattle.arrival_player.specs.Played.{flow_past};
 
     ghost rows = { λ n. Some n.rows };
 
@@ -118,7 +108,7 @@ impl Net for ListNet {
     ghost faults = { λ n. n.calls.faults };
 
     fn now(&self) -> u64 {
-        self.time
+        self.player.now()
     }
 
     fn open(&mut self, round: u32, label: &[u8]) -> Result<u32, DevFault>
@@ -140,9 +130,7 @@ impl Net for ListNet {
         ensures counted { self.new.calls ≡ after_call self.old.calls (is_failed result) }
     {
         self.calls.next()?;
-        let number = self.flows.len() as u32;
-        let cursor = Cursor::new(self.alloc, &self.rows, self.time, round, label)?;
-        push(&mut self.flows, Some(cursor))?;
+        let number = self.player.open(round, label)?;
         Ok(number)
     }
 
@@ -162,7 +150,7 @@ impl Net for ListNet {
     {
         self.calls.next()?;
         let send = ListSend {
-            at: self.time,
+            at: self.player.now(),
             flow,
             port,
             bytes: Bytes::from_slice(self.alloc, bytes)?,
@@ -193,20 +181,8 @@ impl Net for ListNet {
         ensures counted { self.new.calls ≡ after_call self.old.calls (is_failed result) }
     {
         self.calls.next()?;
-        match earliest(&self.rows, &self.flows, self.late, until) {
-            None => {
-                self.time = until;
-                Ok(Next::Quiet)
-            }
-            Some((number, time)) => {
-                let arrival = advance_at(self.alloc, &self.rows, &mut self.flows, number)?;
-                self.time = time;
-                Ok(Next::Came {
-                    flow: number as u32,
-                    arrival,
-                })
-            }
-        }
+        let next = self.player.next(until)?;
+        Ok(next)
     }
 
     fn close(&mut self, flow: u32)
@@ -219,47 +195,17 @@ impl Net for ListNet {
         ensures calls { self.new.calls ≡ self.old.calls }
         ensures faults { self.new.calls.faults ≡ self.old.calls.faults }
     {
-        close_at(&mut self.flows, flow as usize);
+        self.player.close(flow);
     }
 
     ghost not_yet = { λ net n past. flow_past net.flows n past };
 }
 
-/// Puts an item at the end, or answers `Memory` and changes nothing.
-fn push<T: Drop>(items: &mut Vec<T>, item: T) -> Result<(), Memory>
-    ensures pushed { OnOk result (items.new.items ≡ items.old.items ++ item ∷ []) }
-    ensures unchanged { OnErr result (items.new.items ≡ items.old.items) }
+/// Puts bytes at the end, or answers `Memory` and changes nothing.
+fn push(sent: &mut Vec<ListSend>, send: ListSend) -> Result<(), Memory>
+    ensures pushed { OnOk result (sent.new.items ≡ sent.old.items ++ send ∷ []) }
+    ensures unchanged { OnErr result (sent.new.items ≡ sent.old.items) }
 {
-    items.push(item)?;
+    sent.push(send)?;
     Ok(())
-}
-
-/// Gives the next arrival of the open flow of this number, or answers `Memory` and changes nothing.
-fn advance_at(
-    alloc: Global,
-    rows: &[ListRow],
-    flows: &mut Vec<Option<Cursor>>,
-    number: usize,
-) -> Result<Arrival, Memory>
-    requires { WaitsAt (map row_of rows.now) flows.old.items number }
-    ensures advances { IfOk result
-        (AdvancesAt (map row_of rows.now) flows.old.items flows.new.items number) }
-    ensures unchanged { OnErr result (flows.new.items ≡ flows.old.items) }
-{
-    match &mut flows[number] {
-        Some(cursor) => {
-            let arrival = cursor.advance(alloc, rows)?;
-            Ok(arrival)
-        }
-        None => unreachable!(),
-    }
-}
-
-/// Closes the flow of this number, if there is one.
-fn close_at(flows: &mut Vec<Option<Cursor>>, number: usize)
-    ensures { flows.new.items ≡ slice_set flows.old.items number None }
-{
-    if number < flows.len() {
-        flows[number] = None;
-    }
 }

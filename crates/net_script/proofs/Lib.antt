@@ -9,6 +9,6 @@ mod Firsts
 mod Sorting
 mod Blocks
 mod Mine
-mod Bodies
 mod Serves
 mod Flows
+mod Keeping

@@ -1,12 +1,25 @@
 -- The files that a script serves.
 use Rattle.std.specs.Prelude.{◌≡◌, ℕ, Bool, true, false, not, nat_le, List, [], ◌∷◌, length, codes, Option, Some, None, option_map, find}
 use Rattle.std.specs.List.{flat_map}
+use Rattle.std.specs.BTreeMap.{BTreeMap, get}
+use Rattle.std.specs.Cmp.Lexicographic.{slice_cmp}
+use Rattle.std.specs.Ordering.{nat_cmp}
+use Rattle.std.specs.declared.vec.Vec.{Vec}
+use Rattle.bd_dev.specs.declared.faults.DevFault.{DevFault}
+use Rattle.bd_dev.specs.declared.faults.DevFault.TheVariants.{Failed, Memory as OutOfMemory}
 use Rattle.bd_dev.specs.Volumes.{Volume, bytes_of, file_of}
+use Rattle.net_script.specs.declared.fault.ScriptFault.{ScriptFault}
+use Rattle.net_script.specs.declared.fault.ScriptFault.TheVariants.{Media, Memory}
 use Rattle.net_script.specs.declared.feed.Feed.{Feed}
 use Rattle.net_script.specs.declared.feed.Feed.TheVariants as feeds
 use Rattle.net_script.specs.declared.line.Line.{Line}
 use Rattle.net_script.specs.declared.line.Line.TheVariants.{Iface, Flow, At, Tftp}
 use Rattle.net_script.specs.declared.line.Numbered.{Numbered}
+
+-- how the media's fault ends the reading of files
+abbrev pub media_fault : DevFault → ScriptFault
+media_fault Failed = Media
+media_fault OutOfMemory = Memory
 
 -- the volume of the files
 abbrev pub net_volume : List ℕ
@@ -42,3 +55,9 @@ first_lacking volumes lines = option_map (λ n. n.number) (find (λ n. lacks_bod
 abbrev pub IsBodyOf : Option (List ℕ) → Option (List ℕ) → Type 0
 IsBodyOf file None = is_body file ≡ false
 IsBodyOf file (Some body) = (is_body file ≡ true) × (file ≡ Some body)
+
+-- what is known by each name is the body of its file
+abbrev pub AreBodies : {Y : Type 0} → List Volume → BTreeMap (Vec ℕ Y) (List ℕ) → Type 0
+AreBodies {Y} volumes known = (name : Vec ℕ Y) (body : List ℕ)
+    → get (λ x y. slice_cmp nat_cmp x.items y.items) known name ≡ Some body
+    → IsBodyOf (file_of volumes net_volume name.items) (Some body)

@@ -4,7 +4,7 @@ ghost use Rattle.std.specs.Prelude.{◌≡◌};
 ghost use Rattle.net_script.specs.declared.fault.LineFault.TheVariants.{Bad, Memory as LineMemory};
 ghost use Rattle.net_script.specs.declared.fault.ScriptFault.TheVariants.{Media, Memory as ScriptMemory};
 
-use bd_dev::{Failed, Memory};
+use bd_dev::{DevFault, Failed, Memory};
 use std::alloc::{AllocError, AllocFailed};
 use thiserror::Error;
 
@@ -78,6 +78,19 @@ impl From<Failed> for ScriptFault {
 
     fn from(_failed: Failed) -> ScriptFault {
         ScriptFault::Media
+    }
+}
+
+impl From<DevFault> for ScriptFault {
+    ghost use Rattle.net_script.specs.Serving.{media_fault};
+
+    ghost from_gives = { λ device fault. fault ≡ media_fault device };
+
+    fn from(fault: DevFault) -> ScriptFault {
+        match fault {
+            DevFault::Failed => ScriptFault::Media,
+            DevFault::Memory => ScriptFault::Memory,
+        }
     }
 }
 

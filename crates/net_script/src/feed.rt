@@ -1,15 +1,17 @@
 //! What a line gives to flows, once the file that it serves was read.
 
-ghost use Rattle.std.specs.Prelude.{◌≡◌, ◌≤◌, length};
+ghost use Rattle.std.specs.Prelude.{◌≡◌, ◌≤◌, length, IfOk};
 
 use crate::line::Rounds;
-use bd_dev::{Arrival, Bytes};
+use bd_dev::{Arrival, Bytes, Memory};
+use std::alloc::Global;
 use std::marker::Model;
+use std::rc::Rc;
 
-/// A served file, of at most 268,435,456 bytes.
+/// A served file, of at most 268,435,456 bytes. The lines that serve it hold its bytes together.
 #[derive(Drop)]
 pub(crate) struct Body {
-    bytes: Bytes,
+    bytes: Rc<Bytes>,
 }
 
 impl Model for Body {
@@ -17,24 +19,35 @@ impl Model for Body {
 
     ghost Value = { List ℕ };
 
-    ghost view = { λ b. b.bytes };
+    ghost view = { λ b. b.bytes.value };
 
-    ghost invariant = { λ b. length b.bytes ≤ 268435456 };
+    ghost invariant = { λ b. length b.bytes.value ≤ 268435456 };
 }
 
 impl Body {
-    pub(crate) fn new(bytes: Bytes) -> Body
+    pub(crate) fn new(alloc: Global, bytes: Bytes) -> Result<Body, Memory>
         requires { length bytes ≤ 268435456 }
-        ensures { result ≡ bytes }
+        ensures { IfOk result (λ body. body ≡ bytes) }
     {
-        Body { bytes }
+        Ok(Body {
+            bytes: Rc::new(alloc, bytes)?,
+        })
+    }
+
+    /// The same file once more, for another line. Or `Memory`, where too many hold it.
+    pub(crate) fn again(&self) -> Result<Body, Memory>
+        ensures { IfOk result (λ body. body ≡ self.now) }
+    {
+        Ok(Body {
+            bytes: self.bytes.clone()?,
+        })
     }
 
     pub(crate) fn as_slice(&self) -> &[u8]
         ensures bytes { result.now ≡ self.now }
         ensures few { length result.now ≤ 268435456 }
     {
-        self.bytes.as_slice()
+        Rc::as_ref(&self.bytes).as_slice()
     }
 }
 

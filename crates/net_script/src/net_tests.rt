@@ -1,7 +1,8 @@
 //! Networks that play scripts.
 
 ghost use Rattle.std.specs.Prelude.{IfOk, None, ◌≡◌, ◌+◌, ◌<◌, ◌≤◌, [], length};
-ghost use Rattle.tftp_client.specs.Core.{IsNewTftp};
+ghost use Rattle.waits.specs.Laws.{IsNewWaiter};
+ghost use Rattle.tftp_client.specs.Transfer.{tftp};
 
 use super::*;
 use bd_dev::{Arrival, Bytes, DevFault, Failed, Media, MemMedia, Memory, Names, Net, Next};
@@ -55,7 +56,7 @@ fn are_sent(sends: &Sends, wants: &[(u64, u16, &[u8])]) -> bool {
 
 /// The flow that fetches `img`.
 fn transfer(alloc: Global) -> Result<Flow<TftpCore>, Fail>
-    ensures { IfOk result (λ f. IsNewTftp f.core) }
+    ensures { IfOk result (λ f. IsNewWaiter tftp f.core) }
 {
     Ok(Flow {
         label: Bytes::from_slice(alloc, LABEL)?,
@@ -273,6 +274,15 @@ fn the_first_missing_file_is_told_by_its_line(rt: HostRuntime) -> Result<(), Fai
         fault_of(rt.alloc(), b"tftp 1 10.0.0.1:69 a img 1", &[])?,
         None
     );
+    Ok(())
+}
+
+#[test]
+fn a_file_of_two_lines_is_looked_for_and_read_once(rt: HostRuntime) -> Result<(), Fail> {
+    let text = b"tftp 1 10.0.0.1:69 a img 1\ntftp * 10.0.0.1:69 b img 2";
+    for (failing, want) in [(2, Some(ScriptFault::Media)), (3, None)] {
+        assert_eq!(rt; fault_of(rt.alloc(), text, &[failing])?, want);
+    }
     Ok(())
 }
 

@@ -1,10 +1,10 @@
 //! The files that a script serves, read.
 
-ghost use Rattle.std.specs.Prelude.{◌≡◌, ◌≤◌, ◌++◌, ◌∷◌, [], ℕ, true, false, None, Some, Err, length, take, option_to_list, IfOk, IfSome, IfNone, OnOk, IsTrue};
+ghost use Rattle.std.specs.Prelude.{◌≡◌, ◌++◌, ℕ, List, true, false, None, Some, Err, option_to_list, IfOk, OnOk};
 ghost use Rattle.std.specs.Option.{ForSome};
-ghost use Rattle.bd_dev.specs.Faults.{HasCause, HasCauseOr};
-ghost use Rattle.bd_dev.specs.Volumes.{bytes_of, file_of};
-ghost use Rattle.net_script.specs.Serving.{feeds_of, IsBodyOf, first_lacking, lacks_body, net_volume, served};
+ghost use Rattle.bd_dev.specs.Faults.{HasCauseOr};
+ghost use Rattle.bd_dev.specs.Volumes.{Volume, file_of};
+ghost use Rattle.net_script.specs.Serving.{AreBodies, IsBodyOf, feeds_of, first_lacking, lacks_body, net_volume, served};
 ghost use Rattle.net_script.specs.declared.fault.ScriptFault.TheVariants.{Bad, Media as MediaFault};
 ghost use Rattle.net_script.specs.declared.fault.ScriptKind.{ScriptKind};
 ghost use Rattle.net_script.specs.declared.fault.ScriptKind.TheVariants.{NoBody};
@@ -12,8 +12,9 @@ ghost use Rattle.net_script.specs.declared.fault.ScriptKind.TheVariants.{NoBody}
 use crate::fault::{ScriptFault, ScriptKind};
 use crate::feed::{Body, Feed};
 use crate::line::{Line, Numbered};
-use bd_dev::{Bytes, Failed, Media, Memory};
+use bd_dev::{Media, Memory, read_file};
 use std::alloc::Global;
+use std::collections::BTreeMap;
 
 /// The volume of the files.
 const VOLUME: &[u8] = b"net";
@@ -21,59 +22,46 @@ const VOLUME: &[u8] = b"net";
 /// The longest file, in bytes.
 const LONGEST: u64 = 268_435_456;
 
-/// A piece of a file, in bytes.
-const PIECE: usize = 65_536;
+/// The files that were read, by their names.
+type Known = BTreeMap<Vec<u8>, Body>;
 
-/// Puts the first bytes of a piece at the end of a body, or answers `Memory`.
-fn push_front(body: &mut Bytes, piece: &[u8], count: usize) -> Result<(), Memory>
-    requires { count ≤ length piece.now }
-    ensures { OnOk result (body.new ≡ body.old ++ take count piece.now) }
+/// Keeps the body of the file of this name, or answers `Memory`.
+fn keep(known: &mut Known, name: Vec<u8>, body: &Body) -> Result<(), Memory>
+    ensures { OnOk result ((volumes : List Volume) → AreBodies volumes known.old
+        → IsBodyOf (file_of volumes net_volume name.items) (Some body.now)
+        → AreBodies volumes known.new) }
 {
-    body.push_slice(&piece[..count])?;
+    let body = body.again()?;
+    known.insert(name, body)?;
     Ok(())
 }
 
-/// Reads a file to the length that was found, or to its end where that comes first.
-fn read_body<M: Media>(
+/// The body of a served file, which is read where no line before served it. None where there is no such file, or it is
+/// too long.
+fn body_of<M: Media>(
     alloc: Global,
     media: &mut M,
+    known: &mut Known,
     name: &[u8],
-    size: u64,
-) -> Result<Bytes, ScriptFault>
-    ensures whole { IfOk result (λ body. ForSome (M.content media.old) (λ volumes.
-        length (bytes_of volumes net_volume name.now) ≡ size → body ≡ bytes_of volumes net_volume name.now)) }
-    ensures within { IfOk result (λ body. length body ≤ size) }
-    ensures good { (line : ℕ) (kind : ScriptKind) → result ≡ Err (Bad line kind) → ⊥ }
-    ensures kept { M.content media.new ≡ M.content media.old }
-    ensures cause { HasCauseOr MediaFault (M.faults media.old) (M.faults media.new) result }
-{
-    let mut body = Bytes::from_slice(alloc, b"")?;
-    let mut piece = [0u8; PIECE];
-    let mut got = 0;
-    while got < size {
-        let count = media.read(VOLUME, name, got, &mut piece)? as u64;
-        if count == 0 {
-            return Ok(body);
-        }
-        let taken = count.min(size - got);
-        push_front(&mut body, &piece, taken as usize)?;
-        got += taken;
-    }
-    Ok(body)
-}
-
-/// The body of a served file. None where there is no such file, or it is too long.
-fn body_of<M: Media>(alloc: Global, media: &mut M, name: &[u8]) -> Result<Option<Body>, ScriptFault>
+) -> Result<Option<Body>, ScriptFault>
+    requires { ForSome (M.content media.old) (λ volumes. AreBodies volumes known.old) }
+    ensures known { OnOk result (ForSome (M.content media.old) (λ volumes. AreBodies volumes known.new)) }
     ensures told { IfOk result (λ found. ForSome (M.content media.old) (λ volumes.
         IsBodyOf (file_of volumes net_volume name.now) found)) }
     ensures good { (line : ℕ) (kind : ScriptKind) → result ≡ Err (Bad line kind) → ⊥ }
     ensures kept { M.content media.new ≡ M.content media.old }
     ensures cause { HasCauseOr MediaFault (M.faults media.old) (M.faults media.new) result }
 {
+    let key = Vec::from_slice(alloc, name)?;
+    if let Some(body) = known.get(&key) {
+        return Ok(Some(body.again()?));
+    }
     match media.find(VOLUME, name)? {
         Some(size) if size <= LONGEST => {
-            let body = read_body(alloc, media, name, size)?;
-            Ok(Some(Body::new(body)))
+            let bytes = read_file(alloc, media, VOLUME, name, size)?;
+            let body = Body::new(alloc, bytes)?;
+            keep(known, key, &body)?;
+            Ok(Some(body))
         }
         _ => Ok(None),
     }
@@ -83,8 +71,11 @@ fn body_of<M: Media>(alloc: Global, media: &mut M, name: &[u8]) -> Result<Option
 fn served<M: Media>(
     alloc: Global,
     media: &mut M,
+    known: &mut Known,
     numbered: Numbered,
 ) -> Result<Option<Feed>, ScriptFault>
+    requires { ForSome (M.content media.old) (λ volumes. AreBodies volumes known.old) }
+    ensures known { OnOk result (ForSome (M.content media.old) (λ volumes. AreBodies volumes known.new)) }
     ensures served { IfOk result (λ feed. ForSome (M.content media.old) (λ volumes.
         (option_to_list feed ≡ feeds_of volumes numbered.line) × (lacks_body volumes numbered.line ≡ false))) }
     ensures bad { (line : ℕ) (kind : ScriptKind) → result ≡ Err (Bad line kind)
@@ -104,7 +95,7 @@ fn served<M: Media>(
             file,
             every,
         } => {
-            let Some(body) = body_of(alloc, media, file.as_slice())? else {
+            let Some(body) = body_of(alloc, media, known, file.as_slice())? else {
                 return Err(ScriptFault::Bad {
                     line: number,
                     kind: ScriptKind::NoBody,
@@ -136,8 +127,9 @@ pub(crate) fn serve<M: Media>(
     ensures cause { HasCauseOr MediaFault (M.faults media.old) (M.faults media.new) result }
 {
     let mut feeds = Vec::new(alloc);
+    let mut known = BTreeMap::new(alloc);
     for numbered in lines {
-        let feed = served(alloc, media, numbered)?;
+        let feed = served(alloc, media, &mut known, numbered)?;
         push(&mut feeds, feed)?;
     }
     Ok(feeds)

@@ -45,7 +45,7 @@ fn run(rt: &(impl Env + Files + Print + AllocGlobal + Clone + Drop)) -> Status {
     let mut console = OutSink::new(rt);
     let mut trace = FileSink::new(rt, "net.trace");
     if is_discover(&words) {
-        trace.clear();
+        trace.make_anew();
     }
     onie(
         alloc,

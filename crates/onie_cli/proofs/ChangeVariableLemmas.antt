@@ -14,13 +14,13 @@ use Rattle.boot_vars.specs.Setting.{Changes, IsAnswer, IsDurable, changed, set_r
 use Rattle.boot_vars.specs.Vars.{Vars}
 use Rattle.boot_vars.proofs.BadLines.{no_bad_line}
 use Rattle.boot_vars.proofs.Changing.{kept_frame}
-use Rattle.plant_runs.specs.Runs.{LeavesOnly, Looks}
-use Rattle.plant_runs.specs.Touching.{Touches}
-use Rattle.plant_runs.proofs.Joins.{leaves_call, leaves_now, leaves_then}
-use Rattle.plant_runs.proofs.Touch.{leaves_weaker, touch_look, touch_sync, touch_then}
+use Rattle.bd_dev.specs.Runs.{LeavesOnly, Looks}
+use Rattle.bd_dev.specs.Touching.{Touches}
+use Rattle.bd_dev.proofs.Joins.{leaves_call, leaves_now, leaves_then}
+use Rattle.bd_dev.proofs.Touch.{leaves_weaker, touch_look, touch_sync, touch_then}
 use Rattle.slot_pair.specs.Putting.{IsEither, stored}
 use Rattle.soundness.specs.declared.judging.SoundKind.TheVariants as sounds
-use Rattle.storage_model.specs.Slots.{Stored}
+use Rattle.slot_model.specs.Slots.{Stored}
 use Rattle.storage_model.specs.Variables.{HoldsVariables, IsBadLine, IsText, Spells, Variable, kept_in, lines_of, value_among}
 use Rattle.onie_cli.specs.declared.status.Outcome.TheVariants as outcomes
 use Rattle.onie_cli.specs.declared.status.Status.{Status}

@@ -6,7 +6,6 @@ pub mod FieldsLemmas
 pub mod ChangeLemmas
 pub mod ChangeVariableLemmas
 pub mod Printing
-pub mod Fronts
 pub mod Scripts
 pub mod Asked
 pub mod Finding

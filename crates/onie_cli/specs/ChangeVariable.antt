@@ -1,4 +1,4 @@
--- The commands `set` and `unset`.
+-- What `set` and `unset` do: the statuses that they end with, and what they leave in the flash.
 use Rattle.std.specs.Prelude.{◌≡◌, ◌⊎◌, ℕ, ◌+◌, List, [], IsSome, Option, Some, None, if◌then◌else◌, is_none}
 use Rattle.bd_dev.specs.declared.plant.Area.TheVariants.{Flash}
 use Rattle.bd_dev.specs.Plant.{View, IsImage, IsSynced}
@@ -7,11 +7,11 @@ use Rattle.boot_vars.specs.declared.fault.VarFault.TheVariants as faults
 use Rattle.boot_vars.specs.declared.fault.VarsFault.{VarsFault}
 use Rattle.boot_vars.specs.declared.fault.VarsFault.TheVariants as opening
 use Rattle.boot_vars.specs.Setting.{set_refusal, unset_refusal, with_variable, without}
-use Rattle.plant_runs.specs.Runs.{LeavesOnly}
-use Rattle.plant_runs.specs.Touching.{Touches}
+use Rattle.bd_dev.specs.Runs.{LeavesOnly}
+use Rattle.bd_dev.specs.Touching.{Touches}
 use Rattle.slot_pair.specs.Putting.{IsEither, stored}
 use Rattle.soundness.specs.declared.judging.SoundKind.TheVariants as sounds
-use Rattle.storage_model.specs.Slots.{Stored, pair_sectors}
+use Rattle.slot_model.specs.Slots.{Stored, pair_sectors}
 use Rattle.storage_model.specs.Variables.{HoldsVariables, Spells, Variable, kept_in, lines_of, value_among, variables_sectors}
 use Rattle.onie_cli.specs.declared.status.Outcome.TheVariants as outcomes
 use Rattle.onie_cli.specs.declared.status.RefusedKind.{RefusedKind}

@@ -2,7 +2,7 @@
 
 ghost use Rattle.std.specs.Prelude.{◌≡◌, ◌≢◌, ◌≤◌, List, ℕ};
 ghost use Rattle.bd_dev.specs.Faults.{Rose};
-ghost use Rattle.plant_runs.specs.Runs.{Looks};
+ghost use Rattle.bd_dev.specs.Runs.{Looks};
 ghost use Rattle.soundness.specs.Judgement.{IsUnsound};
 ghost use Rattle.storage_model.specs.Soundness.{IsSoundBoard};
 ghost use Rattle.onie_cli.specs.Console.{ComesSoFar};

@@ -4,7 +4,7 @@ ghost use Rattle.std.specs.Prelude.{◌≡◌, ◌≢◌, ◌≤◌, ◌⊎◌, 
 ghost use Rattle.std.specs.Option.{ForSome};
 ghost use Rattle.bd_dev.specs.Faults.{Rose};
 ghost use Rattle.bd_dev.specs.Sink.{Appends};
-ghost use Rattle.plant_runs.specs.Runs.{Looks};
+ghost use Rattle.bd_dev.specs.Runs.{Looks};
 ghost use Rattle.tlvinfo.specs.TlvInfo.{Field, Tlv};
 ghost use Rattle.onie_cli.specs.ChangeVariable.{ChangesVariable, set_change, unset_change};
 ghost use Rattle.onie_cli.specs.Console.{ComesSoFar, Prints};
@@ -13,7 +13,7 @@ ghost use Rattle.onie_cli.specs.Eeprom.{IsAfterFields, IsEepromAnswer, IsFieldsT
 ghost use Rattle.onie_cli.specs.EepromSet.{SetsField};
 ghost use Rattle.onie_cli.specs.Fields.{RefusesUnreadable};
 ghost use Rattle.onie_cli.specs.Refusal.{refusal_line_of};
-ghost use Rattle.onie_cli.specs.Script.{emptied};
+ghost use Rattle.bd_dev.specs.Source.{emptied};
 ghost use Rattle.onie_cli.specs.ShowStatus.{ShowsStatus};
 ghost use Rattle.onie_cli.specs.Status.{IsBeforeRun};
 ghost use Rattle.onie_cli.specs.Words.{ChangesNoVariable, IsDiscover, IsEeprom, IsEepromSet, IsSet, IsStatus, IsUnset, IsUsage};

@@ -7,10 +7,10 @@ use Rattle.byteorder.specs.Numbers.{little_number-reads_back}
 use Rattle.bd_dev.specs.declared.plant.Area.{Area}
 use Rattle.bd_dev.specs.Content.{Image, window}
 use Rattle.bd_dev.proofs.Windows.{at_byte, get_or-window, length-window}
-use Rattle.plant_runs.specs.Touching.{AgreesOutside}
+use Rattle.bd_dev.specs.Touching.{AgreesOutside}
 use Rattle.slot_pair.specs.Body.{Written, body_bytes, body_head}
 use Rattle.slot_pair.specs.Putting.{stored}
-use Rattle.storage_model.specs.Slots.{body, body_length, body_number}
+use Rattle.slot_model.specs.Slots.{body, body_length, body_number}
 use Rattle.slot_pair.proofs.Frames.{body_fits}
 
 -- one sector more

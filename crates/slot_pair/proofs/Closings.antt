@@ -3,17 +3,17 @@ use Rattle.std.proofs.Common.{◌≡◌, ◌⊎◌, inl, inr, ⊎_elim, ℕ, ◌
 use Rattle.bd_dev.specs.declared.plant.Area.{Area}
 use Rattle.bd_dev.specs.Content.{Image}
 use Rattle.bd_dev.specs.Plant.{View, IsSynced}
-use Rattle.plant_runs.specs.Runs.{LeavesOnly, Looks}
-use Rattle.plant_runs.specs.Touching.{Touches}
-use Rattle.plant_runs.proofs.Joins.{leaves_then}
-use Rattle.plant_runs.proofs.Touch.{leaves_both, leaves_weaker, touch_look, touch_then}
+use Rattle.bd_dev.specs.Runs.{LeavesOnly, Looks}
+use Rattle.bd_dev.specs.Touching.{Touches}
+use Rattle.bd_dev.proofs.Joins.{leaves_then}
+use Rattle.bd_dev.proofs.Touch.{leaves_both, leaves_weaker, touch_look, touch_then}
 use Rattle.slot_pair.specs.Choice.{is_second}
 use Rattle.slot_pair.specs.Putting.{IsEither}
 use Rattle.slot_pair.proofs.Currents.{by_none, by_pick, is_current, pick, same_current}
 use Rattle.slot_pair.proofs.Frames.{gate_frame, slot_frame, slot_shut}
 use Rattle.slot_pair.proofs.Pairs.{number_of}
 use Rattle.slot_pair.proofs.Replacing.{apart, touch_gate, touch_pair, while_closing}
-use Rattle.storage_model.specs.Slots.{current, is_open_gate, pair_sectors, slot, slot_lba}
+use Rattle.slot_model.specs.Slots.{current, is_open_gate, pair_sectors, slot, slot_lba}
 
 -- only reads yet
 pub only_looked : (n : ℕ) (area : Area) (base : ℕ) (some : 0 < n) (u b : View) → u.tells → IsSynced u area → Looks u b

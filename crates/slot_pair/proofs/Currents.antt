@@ -8,7 +8,7 @@ use Rattle.bd_dev.specs.Plant.{View, IsImage, IsSynced}
 use Rattle.slot_pair.specs.Choice.{is_second}
 use Rattle.slot_pair.proofs.Frames.{slot_frame}
 use Rattle.slot_pair.proofs.Pairs.{number_of}
-use Rattle.storage_model.specs.Slots.{Stored, current, newer, slot, slot_lba}
+use Rattle.slot_model.specs.Slots.{Stored, current, newer, slot, slot_lba}
 
 -- which of two is current, the one that was told first
 pub pick : Bool → Option Stored → Option Stored → Option Stored

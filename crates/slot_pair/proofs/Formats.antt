@@ -2,15 +2,15 @@
 use Rattle.std.proofs.Common.{◌≡◌, inl, inr, ⊎_elim, ℕ, ◌+◌, ◌<◌, ◌≤◌, List, Bool, true, false, None, ◌∙◌, arith}
 use Rattle.bd_dev.specs.declared.plant.Area.{Area}
 use Rattle.bd_dev.specs.Plant.{View, IsHonest, IsSynced}
-use Rattle.plant_runs.specs.Runs.{LeavesOnly}
-use Rattle.plant_runs.specs.Touching.{Touches}
-use Rattle.plant_runs.proofs.Joins.{leaves_now, leaves_then}
-use Rattle.plant_runs.proofs.Touch.{leaves_both, leaves_weaker, touch_now, touch_then}
+use Rattle.bd_dev.specs.Runs.{LeavesOnly}
+use Rattle.bd_dev.specs.Touching.{Touches}
+use Rattle.bd_dev.proofs.Joins.{leaves_now, leaves_then}
+use Rattle.bd_dev.proofs.Touch.{leaves_both, leaves_weaker, touch_now, touch_then}
 use Rattle.slot_pair.specs.Putting.{Formats, IsEither, IsEitherOrNone, IsStored, formatted, stored}
 use Rattle.slot_pair.proofs.Currents.{by_none, same_current}
 use Rattle.slot_pair.proofs.Frames.{gate_frame, slot_shut}
 use Rattle.slot_pair.proofs.Replacing.{touch_pair}
-use Rattle.storage_model.specs.Slots.{current, is_open_gate, pair_sectors, slot, slot_lba}
+use Rattle.slot_model.specs.Slots.{current, is_open_gate, pair_sectors, slot, slot_lba}
 
 module _ (n : ℕ) (area : Area) (base : ℕ) (content : List ℕ) (some : 0 < n) where
   -- no call

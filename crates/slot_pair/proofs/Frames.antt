@@ -6,7 +6,7 @@ use Rattle.std.specs.Str.{bytes_eq}
 use Rattle.byteorder.specs.Endian.{little_number}
 use Rattle.bd_dev.specs.Content.{SameSector, window}
 use Rattle.bd_dev.proofs.Windows.{at_byte, same_window}
-use Rattle.storage_model.specs.Slots.{body, body_length, body_number, is_open_gate, most_bytes, open_word, slot}
+use Rattle.slot_model.specs.Slots.{body, body_length, body_number, is_open_gate, most_bytes, open_word, slot}
 
 -- a run of bytes within sectors on which two contents agree
 same_range : (z c : ℕ → ℕ) (lo n : ℕ) → ((s : ℕ) → lo ≤ s → s < lo + n → SameSector z c s) → (at m : ℕ) → 512 * lo ≤ at → at + m ≤ 512 * (lo + n) → window c at m ≡ window z at m

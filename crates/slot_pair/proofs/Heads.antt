@@ -8,7 +8,7 @@ use Rattle.byteorder.specs.Numbers.{little_from-take}
 use Rattle.bd_dev.specs.Content.{window}
 use Rattle.bd_dev.proofs.Windows.{length-window, take-window, drop-window}
 use Rattle.slot_pair.specs.Head.{content_length, number_in}
-use Rattle.storage_model.specs.Slots.{Stored, body, body_content, body_length, body_number, is_open_gate, most_bytes, open_word, slot}
+use Rattle.slot_model.specs.Slots.{Stored, body, body_content, body_length, body_number, is_open_gate, most_bytes, open_word, slot}
 
 -- a number is read from its own bytes alone
 front_number : (z : ℕ → ℕ) (at m n : ℕ) → n ≤ m → little_number n (window z at m) ≡ little_number n (window z at n)

@@ -3,7 +3,7 @@ use Rattle.std.proofs.Common.{◌≡◌, ℕ, ◌*◌, ◌≤◌, List, take, Bo
 use Rattle.std.specs.Str.{bytes_eq}
 use Rattle.bd_dev.specs.Content.{window}
 use Rattle.bd_dev.proofs.Windows.{take-window}
-use Rattle.storage_model.specs.Slots.{is_open_gate, open_word}
+use Rattle.slot_model.specs.Slots.{is_open_gate, open_word}
 
 -- the gate in a sector whose first bytes are these
 pub gate_is : (z : ℕ → ℕ) (gate n : ℕ) (sector : List ℕ) (says : Bool) → 8 ≤ n → window z (512 * gate) n ≡ sector → bytes_eq (take 8 sector) open_word ≡ says → is_open_gate z gate ≡ says

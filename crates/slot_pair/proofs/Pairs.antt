@@ -3,10 +3,10 @@ use Rattle.std.proofs.Common.{◌≡◌, ℕ, ◌+◌, List, Bool, true, false, 
 use Rattle.std.specs.Option.{option_map}
 use Rattle.bd_dev.specs.Content.{Image}
 use Rattle.bd_dev.specs.Plant.{View}
-use Rattle.plant_runs.specs.Runs.{Looks}
+use Rattle.bd_dev.specs.Runs.{Looks}
 use Rattle.slot_pair.specs.Choice.{chosen}
 use Rattle.slot_pair.specs.Pair.{Fits, IsKept, Pair}
-use Rattle.storage_model.specs.Slots.{Stored, newer, slot, slot_lba}
+use Rattle.slot_model.specs.Slots.{Stored, newer, slot, slot_lba}
 
 -- the number of what a slot holds
 abbrev pub number_of : Option Stored → Option ℕ

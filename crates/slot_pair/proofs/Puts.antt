@@ -1,17 +1,17 @@
 -- What a put leaves: the other slot is closed, filled, and so is current.
 use Rattle.std.proofs.Common.{◌≡◌, inl, inr, ⊎_elim, ℕ, ◌+◌, ◌<◌, List, not, false, Option, None, sym, ◌∙◌, ap, subst, arith}
 use Rattle.bd_dev.specs.Plant.{View, IsHonest, IsSynced}
-use Rattle.plant_runs.specs.Runs.{LeavesOnly, Looks}
-use Rattle.plant_runs.specs.Touching.{Touches}
-use Rattle.plant_runs.proofs.Joins.{leaves_now, leaves_then}
-use Rattle.plant_runs.proofs.Touch.{leaves_both, leaves_weaker, touch_now, touch_then}
+use Rattle.bd_dev.specs.Runs.{LeavesOnly, Looks}
+use Rattle.bd_dev.specs.Touching.{Touches}
+use Rattle.bd_dev.proofs.Joins.{leaves_now, leaves_then}
+use Rattle.bd_dev.proofs.Touch.{leaves_both, leaves_weaker, touch_now, touch_then}
 use Rattle.slot_pair.specs.Body.{IsSpelled}
 use Rattle.slot_pair.specs.Pair.{Fits, IsKept, Pair}
 use Rattle.slot_pair.specs.Putting.{IsEither, IsEitherOrNone, IsStored, Puts, stored, turned}
 use Rattle.slot_pair.proofs.Currents.{alone, beaten, by_pick, pick, same_current}
 use Rattle.slot_pair.proofs.Frames.{slot_frame}
 use Rattle.slot_pair.proofs.Replacing.{apart, touch_gate, touch_pair, while_closing}
-use Rattle.storage_model.specs.Slots.{Stored, current, is_open_gate, pair_sectors, slot, slot_lba}
+use Rattle.slot_model.specs.Slots.{Stored, current, is_open_gate, pair_sectors, slot, slot_lba}
 
 -- no call
 pub puts_nothing : (n : ℕ) (pair : Pair) (content : List ℕ) (v : View) → 0 < n → IsHonest v → (v.tells → IsSynced v pair.area) → Puts n pair content v v

@@ -4,13 +4,13 @@ use Rattle.std.proofs.lemmas.Bool.{cases_Bool}
 use Rattle.bd_dev.specs.declared.plant.Area.{Area}
 use Rattle.bd_dev.specs.Content.{Outside}
 use Rattle.bd_dev.specs.Plant.{View, IsSynced}
-use Rattle.plant_runs.specs.Runs.{LeavesOnly, Looks}
-use Rattle.plant_runs.specs.Touching.{OnlyTouches, Touches}
-use Rattle.plant_runs.proofs.Joins.{leaves_then}
-use Rattle.plant_runs.proofs.Touch.{leaves_weaker, touch_wider}
+use Rattle.bd_dev.specs.Runs.{LeavesOnly, Looks}
+use Rattle.bd_dev.specs.Touching.{OnlyTouches, Touches}
+use Rattle.bd_dev.proofs.Joins.{leaves_then}
+use Rattle.bd_dev.proofs.Touch.{leaves_weaker, touch_wider}
 use Rattle.slot_pair.specs.Putting.{IsEither}
 use Rattle.slot_pair.proofs.Frames.{body_frame, gate_frame, slot_cases, slot_frame, slot_opened, slot_shut}
-use Rattle.storage_model.specs.Slots.{Stored, body, is_open_gate, pair_sectors, slot, slot_lba}
+use Rattle.slot_model.specs.Slots.{Stored, body, is_open_gate, pair_sectors, slot, slot_lba}
 
 module _ (n : ℕ) (area : Area) (gate : ℕ) (some : 0 < n) where
   -- the gate is closed, if it reads open

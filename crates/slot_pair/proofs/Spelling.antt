@@ -4,9 +4,9 @@ use Rattle.bd_dev.specs.declared.plant.Area.{Area}
 use Rattle.bd_dev.specs.Content.{window}
 use Rattle.bd_dev.specs.Plant.{View}
 use Rattle.bd_dev.proofs.Windows.{at_byte}
-use Rattle.plant_runs.specs.Touching.{OnlyTouches}
+use Rattle.bd_dev.specs.Touching.{OnlyTouches}
 use Rattle.slot_pair.specs.Body.{IsSpelled, Written, body_bytes, used_sectors}
-use Rattle.storage_model.specs.Slots.{open_word}
+use Rattle.slot_model.specs.Slots.{open_word}
 
 -- the gate is opened before a body that is written
 pub spelled : (area : Area) (gate number : ℕ) (content : List ℕ) (v w : View) → Written (v.reads area) (512 * (gate + 1)) (body_bytes number content) (512 * used_sectors (length content))

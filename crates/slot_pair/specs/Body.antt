@@ -2,7 +2,7 @@
 use Rattle.std.specs.Prelude.{◌≡◌, ℕ, ◌+◌, ◌*◌, ◌/◌, ◌<◌, List, ◌++◌, length, replicate, slice_index}
 use Rattle.byteorder.specs.Endian.{little_bytes}
 use Rattle.bd_dev.specs.Content.{window}
-use Rattle.storage_model.specs.Slots.{open_word}
+use Rattle.slot_model.specs.Slots.{open_word}
 
 -- what stands before the content: its number and its length
 abbrev pub body_head : ℕ → ℕ → List ℕ

@@ -2,7 +2,7 @@
 use Rattle.std.specs.Prelude.{ℕ, List, take, drop, Bool, ◌&&◌, if◌then◌else◌, nat_le, Option, Some, None}
 use Rattle.std.specs.Str.{bytes_eq}
 use Rattle.byteorder.specs.Endian.{little_number}
-use Rattle.storage_model.specs.Slots.{most_bytes, open_word}
+use Rattle.slot_model.specs.Slots.{most_bytes, open_word}
 
 -- the length of the content that a body says
 abbrev pub content_length : List ℕ → ℕ

@@ -2,7 +2,7 @@
 use Rattle.std.specs.Prelude.{◌≡◌, ℕ, ◌+◌, ◌≤◌, List, Bool, Some}
 use Rattle.bd_dev.specs.declared.plant.Area.{Area}
 use Rattle.bd_dev.specs.Plant.{View}
-use Rattle.storage_model.specs.Slots.{current, pair_sectors, slot, slot_lba}
+use Rattle.slot_model.specs.Slots.{current, pair_sectors, slot, slot_lba}
 
 -- where a pair begins, which of its slots is current, and that slot's number
 pub record Pair : Type 0 where

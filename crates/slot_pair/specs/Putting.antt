@@ -3,10 +3,10 @@ use Rattle.std.specs.Prelude.{◌≡◌, ◌⊎◌, ℕ, ◌+◌, List, not, fal
 use Rattle.bd_dev.specs.declared.plant.Area.{Area}
 use Rattle.bd_dev.specs.Content.{Image}
 use Rattle.bd_dev.specs.Plant.{View, IsImage, IsSynced}
-use Rattle.plant_runs.specs.Runs.{LeavesOnly}
-use Rattle.plant_runs.specs.Touching.{Touches}
+use Rattle.bd_dev.specs.Runs.{LeavesOnly}
+use Rattle.bd_dev.specs.Touching.{Touches}
 use Rattle.slot_pair.specs.Pair.{Fits, Pair}
-use Rattle.storage_model.specs.Slots.{Stored, current, pair_sectors}
+use Rattle.slot_model.specs.Slots.{Stored, current, pair_sectors}
 
 -- one of the two
 abbrev pub IsEither : Option Stored → Option Stored → Option Stored → Type 0

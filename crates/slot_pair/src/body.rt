@@ -3,14 +3,14 @@
 ghost use Rattle.std.specs.Prelude.{◌≡◌, ◌+◌, ◌*◌, ◌++◌, ◌<◌, ◌≤◌, ◌^◌, ℕ, OnOk, length, slice_index};
 ghost use Rattle.bd_dev.specs.Faults.{HasCause};
 ghost use Rattle.bd_dev.specs.Plant.{IsSynced};
-ghost use Rattle.plant_runs.specs.Touching.{Touches};
+ghost use Rattle.bd_dev.specs.Runs.{WritesAtMost};
+ghost use Rattle.bd_dev.specs.Touching.{Touches};
 ghost use Rattle.slot_pair.specs.Body.{Written, body_bytes, body_head, used_sectors};
 ghost use Rattle.slot_pair.specs.Putting.{stored};
-ghost use Rattle.storage_model.specs.Slots.{body};
+ghost use Rattle.slot_model.specs.Slots.{body};
 
-use bd_dev::{Area, Failed, Plant};
+use bd_dev::{Area, Failed, Plant, sync_area, write_sectors};
 use byteorder::{ByteOrder, LittleEndian};
-use plant_runs::{sync_area, write_sectors};
 
 /// What stands before the content of a body: its number and its length in bytes.
 fn body_head(number: u64, length: u32) -> [u8; 12]
@@ -68,6 +68,8 @@ pub(crate) fn write_body<P: Plant>(
     ensures synced { (P.view plant.old).tells → OnOk result (IsSynced (P.view plant.new) area) }
     ensures touches { Touches area (gate + 1) sectors (P.view plant.old) (P.view plant.new) }
     ensures few { Touches area (gate + 1) (used_sectors (length content.now)) (P.view plant.old) (P.view plant.new) }
+    ensures wears { (P.view plant.old).tells
+        → WritesAtMost area (used_sectors (length content.now)) (P.view plant.old) (P.view plant.new) }
     ensures cause { HasCause (P.view plant.old).faults (P.view plant.new).faults result }
 {
     let head = body_head(number, content.len() as u32);

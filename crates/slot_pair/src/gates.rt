@@ -5,12 +5,11 @@ ghost use Rattle.std.specs.Str.{bytes_eq};
 ghost use Rattle.bd_dev.specs.Content.{window};
 ghost use Rattle.bd_dev.specs.Faults.{HasCause};
 ghost use Rattle.bd_dev.specs.Plant.{IsSynced};
-ghost use Rattle.plant_runs.specs.Runs.{Looks};
-ghost use Rattle.plant_runs.specs.Touching.{Touches};
-ghost use Rattle.storage_model.specs.Slots.{is_open_gate, open_word};
+ghost use Rattle.bd_dev.specs.Runs.{Looks, WritesAtMost};
+ghost use Rattle.bd_dev.specs.Touching.{Touches};
+ghost use Rattle.slot_model.specs.Slots.{is_open_gate, open_word};
 
-use bd_dev::{Area, Failed, Plant};
-use plant_runs::{read_sectors, write_through};
+use bd_dev::{Area, Failed, Plant, read_sectors, write_through};
 
 /// What an open gate begins with.
 const OPEN: &[u8; 8] = b"ONIEOPEN";
@@ -36,6 +35,7 @@ pub(crate) fn close_gate<P: Plant>(plant: &mut P, area: Area, gate: u64) -> Resu
     ensures unwritten { (P.view plant.old).tells → is_open_gate ((P.view plant.old).reads area) gate ≡ false
         → Looks (P.view plant.old) (P.view plant.new) }
     ensures touches { Touches area gate 1 (P.view plant.old) (P.view plant.new) }
+    ensures wears { (P.view plant.old).tells → WritesAtMost area 1 (P.view plant.old) (P.view plant.new) }
     ensures cause { HasCause (P.view plant.old).faults (P.view plant.new).faults result }
 {
     let mut sector = [0; 512];
@@ -64,6 +64,7 @@ pub(crate) fn open_gate<P: Plant>(plant: &mut P, area: Area, gate: u64) -> Resul
         (window ((P.view plant.new).reads area) (512 * gate) 512 ≡ open_word ++ replicate 504 0) }
     ensures synced { (P.view plant.old).tells → OnOk result (IsSynced (P.view plant.new) area) }
     ensures touches { Touches area gate 1 (P.view plant.old) (P.view plant.new) }
+    ensures wears { (P.view plant.old).tells → WritesAtMost area 1 (P.view plant.old) (P.view plant.new) }
     ensures cause { HasCause (P.view plant.old).faults (P.view plant.new).faults result }
 {
     let sector = open_sector();

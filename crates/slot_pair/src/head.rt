@@ -2,14 +2,13 @@
 
 ghost use Rattle.std.specs.Prelude.{◌≡◌, ◌<◌, ◌≤◌, ◌+◌, ◌*◌, ◌^◌, length, take, drop, nat_lt, IfOk, option_map};
 ghost use Rattle.bd_dev.specs.Faults.{HasCause};
-ghost use Rattle.plant_runs.specs.Runs.{Looks};
+ghost use Rattle.bd_dev.specs.Runs.{Looks};
 ghost use Rattle.slot_pair.specs.Head.{content_length, is_open_head, number_in};
-ghost use Rattle.storage_model.specs.Slots.{most_bytes, slot};
+ghost use Rattle.slot_model.specs.Slots.{most_bytes, slot};
 
 use crate::gates::says_open;
-use bd_dev::{Area, Failed, Plant};
+use bd_dev::{Area, Failed, Plant, read_sectors};
 use byteorder::{ByteOrder, LittleEndian};
-use plant_runs::read_sectors;
 
 /// The length in bytes that a body says its content has.
 fn length_in(body: &[u8]) -> usize

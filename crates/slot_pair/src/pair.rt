@@ -1,23 +1,23 @@
 //! A pair of slots.
 
-ghost use Rattle.std.specs.Prelude.{◌≡◌, ◌≢◌, ◌⊎◌, ◌↔◌, ◌<◌, ◌≤◌, ◌+◌, ◌-◌, ◌*◌, ◌^◌, length, take, nat_le, not, Ok, Err, Some, None, IfOk, IsTrue, OnErr, OnOk};
+ghost use Rattle.std.specs.Prelude.{◌≡◌, ◌≢◌, ◌⊎◌, ◌↔◌, ◌<◌, ◌≤◌, ◌+◌, ◌-◌, ◌*◌, ◌^◌, length, take, nat_le, not, Ok, Err, Some, None, IfOk, IsTrue, OnErr, OnOk, false, true};
 ghost use Rattle.bd_dev.specs.Faults.{HasCause, HasCauseOr};
 ghost use Rattle.bd_dev.specs.Plant.{IsSynced};
-ghost use Rattle.plant_runs.specs.Runs.{Looks};
-ghost use Rattle.plant_runs.specs.Touching.{Touches};
+ghost use Rattle.bd_dev.specs.Runs.{Looks, WritesAtMost};
+ghost use Rattle.bd_dev.specs.Touching.{Touches};
 ghost use Rattle.slot_pair.specs.Body.{IsSpelled, used_sectors};
+ghost use Rattle.slot_pair.specs.Formatting.{IsBesideFormat, IsShut, LeavesAlone};
 ghost use Rattle.slot_pair.specs.Pair.{Fits, Pair};
 ghost use Rattle.slot_pair.specs.Putting.{Formats, IsStored, Puts, formatted, turned};
 ghost use Rattle.slot_pair.specs.declared.fault.SlotFault.TheVariants.{Fault, NoSlot};
-ghost use Rattle.storage_model.specs.Slots.{current, current_in, most_bytes, pair_sectors, slot_lba};
+ghost use Rattle.slot_model.specs.Slots.{current, current_in, is_open_gate, most_bytes, pair_sectors, slot_lba};
 
 use crate::choice::choose;
 use crate::fault::{PutFault, SlotFault};
 use crate::gates::close_gate;
 use crate::head::{content_to_front, is_too_long, slot_number};
 use crate::slots::{close_slots, fill_slot, slot_gate};
-use bd_dev::{Area, Failed, Plant};
-use plant_runs::read_sectors;
+use bd_dev::{Area, Failed, Plant, read_sectors};
 use std::marker::Model;
 
 /// A pair of slots of N sectors of body each, 1 to 65,536: where it begins, which slot is current, and that slot's
@@ -150,6 +150,8 @@ impl<const N: usize> SlotPair<N> {
             (slot_lba N self.old.base (not self.old.second)) (self.old.number + 1) content.now) }
         ensures few { Touches self.old.area (slot_lba N self.old.base (not self.old.second))
             (used_sectors (length content.now) + 1) (P.view plant.old) (P.view plant.new) }
+        ensures wears { (P.view plant.old).tells → WritesAtMost self.old.area (used_sectors (length content.now) + 2)
+            (P.view plant.old) (P.view plant.new) }
         ensures puts { Puts N self.old content.now (P.view plant.old) (P.view plant.new) }
         ensures cause { HasCauseOr PutFault.Fault (P.view plant.old).faults (P.view plant.new).faults result }
     {
@@ -172,7 +174,8 @@ impl<const N: usize> SlotPair<N> {
     /// this one.
     ///
     /// Each gate that reads open is closed and synced, the current slot's last. Then the first slot's body is written and
-    /// synced, then its gate. The area has room for the 2 (N + 1) sectors, and nothing of it is unsynced.
+    /// synced, then its gate: at most one write of a sector more than a put makes. The second slot's body and all beside
+    /// the pair is left alone. The area has room for the 2 (N + 1) sectors, and nothing of it is unsynced.
     ///
     /// `TooLong` where the content has over 512 N - 12 bytes: then no call was made. `Fault` where the plant fails. Never
     /// `SeqEnd`.
@@ -193,6 +196,14 @@ impl<const N: usize> SlotPair<N> {
         ensures stored { IfOk result (λ pair. IsStored N (P.view plant.new) pair content.now) }
         ensures bytes { (P.view plant.old).tells
             → OnOk result (IsSpelled ((P.view plant.new).reads area) base 1 content.now) }
+        ensures shut { (P.view plant.old).tells → OnOk result (IsShut
+            ((P.view plant.old).reads area) ((P.view plant.new).reads area) (slot_lba N base true)) }
+        ensures closed { (P.view plant.old).tells
+            → OnOk result (is_open_gate ((P.view plant.new).reads area) (slot_lba N base true) ≡ false) }
+        ensures few { (P.view plant.old).tells → LeavesAlone
+            (IsBesideFormat N area base (used_sectors (length content.now))) (P.view plant.old) (P.view plant.new) }
+        ensures wears { (P.view plant.old).tells
+            → WritesAtMost area (used_sectors (length content.now) + 3) (P.view plant.old) (P.view plant.new) }
         ensures formats { Formats N area base content.now (P.view plant.old) (P.view plant.new) }
         ensures cause { HasCauseOr PutFault.Fault (P.view plant.old).faults (P.view plant.new).faults result }
     {

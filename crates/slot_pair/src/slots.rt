@@ -3,11 +3,12 @@
 ghost use Rattle.std.specs.Prelude.{◌≡◌, ◌⊎◌, ◌<◌, ◌≤◌, ◌+◌, ◌*◌, ◌^◌, Bool, None, OnOk, false, length};
 ghost use Rattle.bd_dev.specs.Faults.{HasCause};
 ghost use Rattle.bd_dev.specs.Plant.{IsSynced};
-ghost use Rattle.plant_runs.specs.Runs.{LeavesOnly};
-ghost use Rattle.plant_runs.specs.Touching.{Touches};
+ghost use Rattle.bd_dev.specs.Runs.{LeavesOnly, WritesAtMost};
+ghost use Rattle.bd_dev.specs.Touching.{Touches};
 ghost use Rattle.slot_pair.specs.Body.{IsSpelled, used_sectors};
 ghost use Rattle.slot_pair.specs.Putting.{IsEither, stored};
-ghost use Rattle.storage_model.specs.Slots.{current, is_open_gate, pair_sectors, slot, slot_lba};
+ghost use Rattle.slot_pair.specs.Formatting.{IsBesideFormat, IsShut, LeavesAlone};
+ghost use Rattle.slot_model.specs.Slots.{current, is_open_gate, pair_sectors, slot, slot_lba};
 
 use crate::body::write_body;
 use crate::choice::is_second;
@@ -50,6 +51,8 @@ pub(crate) fn fill_slot<P: Plant>(
         (λ c. IsEither None (stored number content.now) (slot sectors (c area) gate)) }
     ensures touches { Touches area gate (sectors + 1) (P.view plant.old) (P.view plant.new) }
     ensures few { Touches area gate (used_sectors (length content.now) + 1) (P.view plant.old) (P.view plant.new) }
+    ensures wears { (P.view plant.old).tells
+        → WritesAtMost area (used_sectors (length content.now) + 1) (P.view plant.old) (P.view plant.new) }
     ensures cause { HasCause (P.view plant.old).faults (P.view plant.new).faults result }
 {
     write_body(plant, area, gate, sectors, number, content)?;
@@ -73,7 +76,12 @@ pub(crate) fn close_slots<P: Plant>(
     ensures synced { (P.view plant.old).tells → OnOk result (IsSynced (P.view plant.new) area) }
     ensures crash { (P.view plant.old).tells → LeavesOnly (P.view plant.old) (P.view plant.new)
         (λ c. IsEither None (current sectors ((P.view plant.old).reads area) base) (current sectors (c area) base)) }
+    ensures shut { (P.view plant.old).tells → OnOk result ((second : Bool) → IsShut
+        ((P.view plant.old).reads area) ((P.view plant.new).reads area) (slot_lba sectors base second)) }
     ensures touches { Touches area base (pair_sectors sectors) (P.view plant.old) (P.view plant.new) }
+    ensures few { (P.view plant.old).tells
+        → LeavesAlone (IsBesideFormat sectors area base 0) (P.view plant.old) (P.view plant.new) }
+    ensures wears { (P.view plant.old).tells → WritesAtMost area 2 (P.view plant.old) (P.view plant.new) }
     ensures cause { HasCause (P.view plant.old).faults (P.view plant.new).faults result }
 {
     let first = slot_number(plant, area, base, sectors)?;

@@ -7,12 +7,12 @@ use Rattle.bd_dev.specs.Content.{Image}
 use Rattle.gpt_copy.specs.declared.table.Entry.{Entry}
 use Rattle.gpt_copy.specs.declared.table.Table.{Table}
 use Rattle.bd_dev.specs.Plant.{View}
-use Rattle.plant_runs.specs.Runs.{Looks}
+use Rattle.bd_dev.specs.Runs.{Looks}
 use Rattle.storage_model.specs.Disk.{Found, found, table_of}
 use Rattle.storage_model.specs.Entries.{OnieEntry}
 use Rattle.storage_model.specs.Image.{has_image}
 use Rattle.storage_model.specs.Soundness.{IsSoundBoard, IsSoundTable}
-use Rattle.storage_model.specs.Slots.{Stored}
+use Rattle.slot_model.specs.Slots.{Stored}
 use Rattle.storage_model.specs.Variables.{HoldsVariables}
 use Rattle.soundness.specs.declared.judging.SoundKind.{SoundKind}
 use Rattle.soundness.specs.declared.judging.SoundKind.TheVariants as kinds

@@ -9,7 +9,7 @@ use Rattle.boot_vars.specs.Vars.{Vars}
 use Rattle.storage_model.specs.Disk.{found, table_of}
 use Rattle.storage_model.specs.Entries.{IsSane, OnieEntry}
 use Rattle.storage_model.specs.Image.{has_image}
-use Rattle.storage_model.specs.Slots.{Stored}
+use Rattle.slot_model.specs.Slots.{Stored}
 use Rattle.storage_model.specs.Soundness.{IsSoundTable}
 use Rattle.storage_model.specs.Variables.{HoldsVariables}
 use Rattle.soundness.specs.declared.judging.Sound.{Sound}

@@ -1,8 +1,8 @@
 -- Which entries are of ONIE's type.
-use Rattle.std.specs.Prelude.{◌≡◌, ◌≢◌, ℕ, ◌<◌, ◌≤◌, List, Some, slice_get}
+use Rattle.std.specs.Prelude.{◌≡◌, ◌≢◌, ℕ, ◌-◌, ◌<◌, ◌≤◌, List, Some, slice_get}
 use Rattle.gpt_copy.specs.declared.table.Entry.{Entry}
 use Rattle.gpt_copy.specs.declared.table.Table.{Table}
-use Rattle.storage_model.specs.Entries.{HasOnie, onie_type}
+use Rattle.storage_model.specs.Entries.{HasOnie, OnieEntry, onie_type}
 
 -- no entry at these places is of ONIE's type
 abbrev pub NoneWithin : List Entry → ℕ → ℕ → Type 0
@@ -29,3 +29,9 @@ pub record HasTwoOnie (t : Table) : Type 0 where
   pub has_one : HasOnie t first one
   pub has_other : HasOnie t second other
   pub different : first ≢ second
+
+-- the one entry of ONIE's type has this number, from 1
+pub record IsOnieNumber (t : Table) (number : ℕ) : Type 0 where
+  pub from : 0 < number
+  pub entry : Entry
+  pub one : OnieEntry t (number - 1) entry

@@ -19,8 +19,8 @@ fn is_nos(entry: &Entry, guid: Guid) -> bool
     is_used(entry) && entry.guid == guid && !is_onie(entry)
 }
 
-/// Whether a used entry that is not ONIE's has this GUID.
-fn has_nos(table: &Table, guid: Guid) -> bool
+/// Whether a used entry that is not of ONIE's type has this GUID.
+pub fn has_nos(table: &Table, guid: Guid) -> bool
     ensures { IsTrue result ↔ HasNos table.now guid }
 {
     let entries = table.entries.as_slice();

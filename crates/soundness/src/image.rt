@@ -3,13 +3,12 @@
 ghost use Rattle.std.specs.Prelude.{◌≡◌, ◌≤◌, ◌<◌, IfOk};
 ghost use Rattle.bd_dev.specs.declared.plant.Area.TheVariants.{Disk};
 ghost use Rattle.bd_dev.specs.Faults.{HasCause};
-ghost use Rattle.plant_runs.specs.Runs.{Looks};
+ghost use Rattle.bd_dev.specs.Runs.{Looks};
 ghost use Rattle.storage_model.specs.Image.{has_image, is_image_head};
 
-use bd_dev::{Area, Failed, Plant};
+use bd_dev::{Area, Failed, Plant, read_sectors};
 use byteorder::{ByteOrder, LittleEndian};
 use gpt_copy::Entry;
-use plant_runs::read_sectors;
 
 /// The most bytes that an image has: what a slot of 4,096 sectors holds beside its 12 bytes of number and length.
 const MOST_BYTES: u32 = 2_097_140;

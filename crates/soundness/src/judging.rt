@@ -5,7 +5,7 @@ ghost use Rattle.bd_dev.specs.declared.plant.Area.TheVariants.{Disk, Flash};
 ghost use Rattle.bd_dev.specs.Faults.{HasCause, HasCauseOr};
 ghost use Rattle.boot_vars.specs.Vars.{FitsVars};
 ghost use Rattle.gpt_copy.specs.Copy.{FitsDisk};
-ghost use Rattle.plant_runs.specs.Runs.{Looks};
+ghost use Rattle.bd_dev.specs.Runs.{Looks};
 ghost use Rattle.storage_model.specs.Disk.{found};
 ghost use Rattle.storage_model.specs.Soundness.{IsSoundTable};
 ghost use Rattle.storage_model.specs.Entries.{IsSane};

@@ -2,7 +2,7 @@
 
 ghost use Rattle.std.specs.Prelude.{◌≡◌, ◌≤◌, ◌↔◌, ℕ, length, IfErr, IfOk, IsTrue, MatchOption};
 ghost use Rattle.storage_model.specs.Entries.{OnieEntry, onie_type};
-ghost use Rattle.soundness.specs.Onie.{IsNextOnie, NoneWithin};
+ghost use Rattle.soundness.specs.Onie.{IsNextOnie, IsOnieNumber, NoneWithin};
 ghost use Rattle.soundness.specs.Judgement.{IsOnieFault};
 
 use crate::judging::SoundKind;
@@ -18,7 +18,7 @@ const ONIE_TYPE: Guid = Guid {
 };
 
 /// Whether an entry is of ONIE's type.
-pub(crate) fn is_onie(entry: &Entry) -> bool
+pub fn is_onie(entry: &Entry) -> bool
     ensures { IsTrue result ↔ (entry.now.kind ≡ onie_type) }
 {
     entry.kind == ONIE_TYPE
@@ -37,9 +37,9 @@ fn next_onie(entries: &[Entry], from: usize) -> Option<usize>
     None
 }
 
-/// The one entry of ONIE's type. `NoOnie` where there is none, `TwoOnie` where there are more.
-pub(crate) fn onie_entry(table: &Table) -> Result<&Entry, SoundKind>
-    ensures one { IfOk result (λ e. (i : ℕ) × OnieEntry table.now i e.now) }
+/// The number, from 1, of the one entry of ONIE's type. `NoOnie` where there is none, `TwoOnie` where there are more.
+pub fn onie_number(table: &Table) -> Result<usize, SoundKind>
+    ensures one { IfOk result (IsOnieNumber table.now) }
     ensures fault { IfErr result (IsOnieFault table.now) }
 {
     let entries = table.entries.as_slice();
@@ -48,6 +48,18 @@ pub(crate) fn onie_entry(table: &Table) -> Result<&Entry, SoundKind>
     };
     match next_onie(entries, place + 1) {
         Some(_) => Err(SoundKind::TwoOnie),
-        None => Ok(&entries[place]),
+        None => Ok(place + 1),
+    }
+}
+
+/// The one entry of ONIE's type. `NoOnie` where there is none, `TwoOnie` where there are more.
+pub fn onie_entry(table: &Table) -> Result<&Entry, SoundKind>
+    ensures one { IfOk result (λ e. (i : ℕ) × OnieEntry table.now i e.now) }
+    ensures fault { IfErr result (IsOnieFault table.now) }
+{
+    let entries = table.entries.as_slice();
+    match onie_number(table) {
+        Ok(number) => Ok(&entries[number - 1]),
+        Err(kind) => Err(kind),
     }
 }

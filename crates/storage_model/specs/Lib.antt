@@ -1,7 +1,8 @@
 pub mod Disk
 pub mod Entries
-pub mod Slots
+pub mod Copies
 pub mod Variables
 pub mod Image
 pub mod Soundness
 pub mod Boots
+pub mod Choices

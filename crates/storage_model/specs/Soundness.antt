@@ -8,7 +8,7 @@ use Rattle.gpt_copy.specs.declared.table.Table.{Table}
 use Rattle.storage_model.specs.Disk.{table_of}
 use Rattle.storage_model.specs.Entries.{IsSane, OnieEntry}
 use Rattle.storage_model.specs.Image.{has_image}
-use Rattle.storage_model.specs.Slots.{Stored}
+use Rattle.slot_model.specs.Slots.{Stored}
 use Rattle.storage_model.specs.Variables.{HoldsVariables}
 
 -- a sane table, of which exactly one entry is of ONIE's type, and that one holds an image

@@ -7,7 +7,7 @@ use Rattle.bd_text.specs.declared.guid.Guid.{Guid}
 use Rattle.bd_text.specs.Guid.{SpellsGuid}
 use Rattle.bd_mode.specs.declared.mode.Mode.{Mode}
 use Rattle.bd_mode.specs.Modes.{mode_of}
-use Rattle.storage_model.specs.Slots.{Stored, current_in}
+use Rattle.slot_model.specs.Slots.{Stored, current_in}
 
 pub record Variable : Type 0 where
   pub name : List ℕ

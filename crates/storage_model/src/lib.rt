@@ -1,5 +1,10 @@
-//! What the disk and the flash of a board mean: the disk's table and its entries, the flash's slots and variables,
+//! What the disk and the flash of a board mean: the disk's table with its two copies and its entries, the variables,
 //! ONIE's image, soundness, and what boots.
 //!
-//! Definitions alone, in `specs/`, which all crates of storage share; there is no code here.
+//! Definitions, in `specs/`, which all crates of storage share. There is no code here but for [`choices_are_found`], a law
+//! about them.
 #![tactic(auto)]
+
+mod choices;
+
+pub use choices::choices_are_found;

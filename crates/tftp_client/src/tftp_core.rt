@@ -1,8 +1,6 @@
 //! The client.
 
-ghost use Rattle.std.specs.Prelude.{◌≡◌, ◌≤◌, ◌<◌, ◌+◌, ◌^◌, ◌++◌, ◌∷◌, [], None, Some, List, drop, length, nat_lt, IfOk, OnOk};
-ghost use Rattle.bd_dev.specs.Rows.{TimedArrival};
-ghost use Rattle.flow.specs.Own.{own_end, own_sends};
+ghost use Rattle.std.specs.Prelude.{◌≡◌, ◌≤◌, ◌^◌, ◌++◌, ◌∷◌, [], None, Some, length, IfOk, OnOk};
 ghost use Rattle.tftp_client.specs.Packets.{IsPath, unknown_transfer};
 ghost use Rattle.tftp_client.specs.Transfer.{letter};
 
@@ -10,6 +8,7 @@ use crate::packets::{Meaning, ack, read_meaning};
 use bd_dev::{Arrival, Bytes, Memory};
 use flow::{Core, Outbox};
 use std::alloc::Global;
+use std::marker::Model;
 use thiserror::Error;
 
 /// Why a transfer gives no body.
@@ -57,26 +56,46 @@ pub struct TftpCore {
     // Of the last block taken, or 0.
     number: u16,
     body: Bytes,
-    due: u64,
-    retries: u8,
+    // When the wait for the next block began, and how many of its timers have passed.
+    began: u64,
+    passed: u8,
     ending: Option<Ending>,
 }
 
+impl Model for TftpCore {
+    ghost use Rattle.std.specs.Prelude.{◌≤◌, ◌^◌, ℕ, List, Result, length};
+    ghost use Rattle.waits.specs.Waits.{Waiter};
+    ghost use Rattle.tftp_client.specs.declared.tftp_core.TftpMiss.{TftpMiss};
+    ghost use Rattle.tftp_client.specs.Transfer.{Taken, ahead, found_by, wait_from};
+
+    ghost Value = { Waiter Taken (Result (List ℕ) TftpMiss) };
+
+    ghost view = { λ c. record {
+      known = record { port = c.port; asking = c.request; chosen = c.chosen; number = c.number; bytes = c.body };
+      again = ahead c.began c.passed c.ending;
+      over = (wait_from c.began).over;
+      found = found_by c.ending c.body;
+    } };
+
+    ghost invariant = { λ c. (c.passed ≤ 2) × (c.began ≤ 2 ^ 63) × (length c.body ≤ 33554432) };
+}
+
 impl TftpCore {
-    ghost use Rattle.tftp_client.specs.Core.{IsClientFor, last_letter, result_of, takes, takes_letters, tftp_acts};
-    ghost use Rattle.tftp_client.specs.Transfer.{tftp_body, tftp_sends};
+    ghost use Rattle.std.specs.Prelude.{List};
+    ghost use Rattle.bd_dev.specs.Rows.{TimedArrival};
+    ghost use Rattle.waits.specs.Waits.{ComesTo, arrived_by, found_of, letters_of, new_waiter, outcome};
     ghost use Rattle.tftp_client.specs.Places.{IsBodyOf};
+    ghost use Rattle.tftp_client.specs.Transfer.{hears_block, last_sent, none_taken, tftp, tftp_acts};
 
     /// A client that will ask this port for this path, or `Memory`.
     pub fn new(alloc: Global, port: u16, path: &[u8]) -> Result<TftpCore, Memory>
         requires { IsPath path.now }
-        ensures client { IfOk result (IsClientFor port path.now) }
-        ensures finds { IfOk result (λ client. (arrivals : List TimedArrival)
-            → result_of ((own_end tftp_acts client arrivals).core) ≡ Some (tftp_body arrivals)) }
+        ensures client { IfOk result (λ client. client ≡ new_waiter tftp (none_taken port path.now)) }
+        ensures comes_to { IfOk result (λ client. (arrivals : List TimedArrival)
+            → ComesTo tftp_acts found_of client arrivals (outcome tftp (none_taken port path.now) arrivals)) }
         ensures places { IfOk result (λ client. (arrivals : List TimedArrival)
-            → IsBodyOf arrivals (tftp_body arrivals)) }
-        ensures sends { IfOk result (λ client. (arrivals : List TimedArrival)
-            → own_sends tftp_acts client arrivals ≡ tftp_sends port path.now arrivals) }
+            → IsBodyOf port path.now arrivals
+            (outcome tftp (none_taken port path.now) arrivals).found) }
     {
         let mut request = Bytes::from_slice(alloc, b"\0\x01")?;
         request.push_slice(path)?;
@@ -87,16 +106,17 @@ impl TftpCore {
             chosen: None,
             number: 0,
             body: Bytes::from_slice(alloc, b"")?,
-            due: PAUSE,
-            retries: RETRIES,
+            began: 0,
+            passed: 0,
             ending: None,
         })
     }
 
-    /// What a client that is done has found: the whole body, or why there is none.
+    /// What a client that is done has found: the whole body, of at most 33,554,432 bytes, or why there is none.
     pub fn result(self) -> Result<Bytes, TftpMiss>
         requires { tftp_acts.deadline self ≡ None }
-        ensures { result_of self ≡ Some result }
+        ensures found { self.found ≡ Some result }
+        ensures within { IfOk result (λ body. length body ≤ 33554432) }
     {
         match self.ending {
             Some(Ending::Whole) => Ok(self.body),
@@ -107,8 +127,8 @@ impl TftpCore {
 
     /// Sends the request, or the acknowledgment of the last block.
     fn send_last(&self, out: &mut Outbox) -> Result<(), Memory>
-        ensures { OnOk result (out.new ≡ out.old
-            ++ last_letter self.now.port self.now.request self.now.chosen self.now.number ∷ []) }
+        ensures { OnOk result
+            (out.new ≡ out.old ++ last_sent self.now.known self.now.known.chosen ∷ []) }
     {
         match self.chosen {
             None => out.push(self.port, self.request.as_slice())?,
@@ -119,11 +139,13 @@ impl TftpCore {
 
     /// Takes the next block, unless the body would pass its limit.
     fn take(&mut self, at: u64, port: u16, block: &[u8], out: &mut Outbox) -> Result<(), Memory>
+        requires waits { self.old.found ≡ None }
         requires small { at ≤ 2 ^ 63 }
         requires short { length block.now ≤ 512 }
-        ensures core { OnOk result (self.new ≡ takes self.old at port block.now) }
+        ensures core { OnOk result
+            (self.new ≡ arrived_by tftp self.old at (hears_block self.old.known port block.now)) }
         ensures letters { OnOk result
-            (out.new ≡ out.old ++ takes_letters self.old port block.now) }
+            (out.new ≡ out.old ++ letters_of (hears_block self.old.known port block.now)) }
     {
         if self.body.as_slice().len() > LIMIT - block.len() {
             self.ending = Some(Ending::Missed(TftpMiss::TooLarge));
@@ -132,10 +154,11 @@ impl TftpCore {
         self.body.push_slice(block)?;
         self.number = self.number.wrapping_add(1);
         self.chosen = Some(port);
-        self.due = at + PAUSE;
-        self.retries = RETRIES;
         if block.len() < 512 {
             self.ending = Some(Ending::Whole);
+        } else {
+            self.began = at;
+            self.passed = 0;
         }
         out.push(port, &ack(self.number))?;
         Ok(())
@@ -152,14 +175,14 @@ fn tell_stranger(port: u16, out: &mut Outbox) -> Result<(), Memory>
 }
 
 impl Core for TftpCore {
-    ghost use Rattle.tftp_client.specs.Core.{HasTftpBegun, IsNewTftp, tftp_acts};
-    ghost use Rattle.tftp_client.specs.Laws.{tftp_lawful};
+    ghost use Rattle.waits.specs.Laws.{HasWaiterBegun, IsNewWaiter, exchange_lawful};
+    ghost use Rattle.tftp_client.specs.Transfer.{tftp, tftp_acts, tftp_timely};
 
     ghost acts = { tftp_acts };
 
-    ghost IsNew = { IsNewTftp };
+    ghost IsNew = { IsNewWaiter tftp };
 
-    ghost HasBegun = { HasTftpBegun };
+    ghost HasBegun = { HasWaiterBegun };
 
     fn begin(&mut self, out: &mut Outbox) -> Result<(), Memory> {
         self.send_last(out)?;
@@ -186,12 +209,12 @@ impl Core for TftpCore {
     }
 
     fn expire(&mut self, at: u64, out: &mut Outbox) -> Result<(), Memory> {
-        if self.retries == 0 {
-            self.ending = Some(Ending::Missed(TftpMiss::Silent));
-        } else {
-            self.retries -= 1;
-            self.due = at + PAUSE;
+        let _at = at;
+        if self.passed < RETRIES {
+            self.passed += 1;
             self.send_last(out)?;
+        } else {
+            self.ending = Some(Ending::Missed(TftpMiss::Silent));
         }
         Ok(())
     }
@@ -200,12 +223,13 @@ impl Core for TftpCore {
         self.ending = Some(Ending::Missed(TftpMiss::Flooded));
     }
 
+    #[tactic(auto, using(crate::proofs::Waiting::next_timer))]
     fn deadline(&self) -> Option<u64> {
         match self.ending {
-            None => Some(self.due),
+            None => Some(self.began + (u64::from(self.passed) + 1) * PAUSE),
             Some(_) => None,
         }
     }
 
-    ghost lawful = { tftp_lawful };
+    ghost lawful = { exchange_lawful tftp tftp_timely };
 }

@@ -1,4 +1,4 @@
--- Values as they are printed.
+-- The text that is printed for a value, by the kind of its code.
 use Rattle.std.specs.Prelude.{ℕ, if◌then◌else◌, List, map}
 use Rattle.std.specs.Fmt.{decimal}
 use Rattle.byteorder.specs.Endian.{big_number}

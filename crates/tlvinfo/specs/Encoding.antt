@@ -1,4 +1,4 @@
--- How bytes are written.
+-- The spelling of fields at the front of an EEPROM, and the checksum that ends it.
 use Rattle.std.specs.Prelude.{◌≡◌, ℕ, List, [], ◌∷◌, ◌++◌, length, take, drop}
 use Rattle.byteorder.specs.Endian.{big_bytes}
 use Rattle.bd_bytes.specs.Crc.{crc32_of}

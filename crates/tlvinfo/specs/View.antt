@@ -1,4 +1,4 @@
--- Values of the code without where they lie in memory.
+-- The fields as lists, without where they lie in memory.
 use Rattle.std.specs.Prelude.{List, map}
 use Rattle.tlvinfo.specs.declared.info.Entry.{Entry}
 use Rattle.tlvinfo.specs.TlvInfo.{Field}

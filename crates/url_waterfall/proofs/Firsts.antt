@@ -18,7 +18,7 @@ differ c d = not (shows c.shown d)
 abbrev is_new : List Candidate → Candidate → Bool
 is_new cs c = not (list_any (shows c.shown) cs)
 
-bytes_eq-comm : (xs ys : List ℕ) → bytes_eq xs ys ≡ bytes_eq ys xs
+pub bytes_eq-comm : (xs ys : List ℕ) → bytes_eq xs ys ≡ bytes_eq ys xs
 bytes_eq-comm xs ys = by (bytes_eq xs ys) (bytes_eq ys xs) refl refl
   where
     by : (a b : Bool) → bytes_eq xs ys ≡ a → bytes_eq ys xs ≡ b → a ≡ b

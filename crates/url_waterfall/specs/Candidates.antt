@@ -1,4 +1,4 @@
--- Where an installer may be.
+-- The candidates on local media, in their order.
 use Rattle.std.specs.Prelude.{ℕ, Bool, not, List, ◌++◌, map, filter, None, codes}
 use Rattle.std.specs.List.{flat_map}
 use Rattle.std.specs.Str.{bytes_eq}

@@ -1,9 +1,7 @@
 //! A candidate: where an installer may be.
 
-ghost use Rattle.std.specs.Prelude.{◌≡◌, IfOk, OnOk};
-ghost use Rattle.std.specs.List.{list_any};
+ghost use Rattle.std.specs.Prelude.{◌≡◌, IfOk};
 ghost use Rattle.url_waterfall.specs.Candidates.{local_file};
-ghost use Rattle.url_waterfall.specs.Firsts.{shows, with_new};
 
 use bd_dev::{Bytes, Memory};
 use std::alloc::Global;
@@ -43,22 +41,4 @@ impl Candidate {
         };
         Ok(Candidate { place, shown })
     }
-}
-
-/// Whether a candidate of the list shows the text.
-fn is_shown(list: &[Candidate], text: &[u8]) -> bool
-    ensures { result ≡ list_any (shows text.now) list.now }
-{
-    list.iter()
-        .any(|candidate| candidate.shown.as_slice() == text)
-}
-
-/// Puts the candidate at the end, unless its text is shown already.
-pub(crate) fn push_new(list: &mut Vec<Candidate>, candidate: Candidate) -> Result<(), Memory>
-    ensures { OnOk result (list.new.items ≡ with_new list.old.items candidate) }
-{
-    if !is_shown(list, candidate.shown.as_slice()) {
-        list.push(candidate)?;
-    }
-    Ok(())
 }

@@ -6,6 +6,7 @@
 #![tactic(auto)]
 
 mod candidate;
+mod listing;
 mod local;
 mod naming;
 #[cfg(test)]

@@ -3,9 +3,10 @@
 ghost use Rattle.std.specs.Prelude.{◌≡◌, map, fold, IfOk, OnOk};
 ghost use Rattle.tlvinfo.specs.IdentityView.{board_of};
 ghost use Rattle.url_waterfall.specs.Candidates.{local_file, files_named, local_files};
-ghost use Rattle.url_waterfall.specs.Firsts.{firsts, with_new, KeepsFirsts};
+ghost use Rattle.url_waterfall.specs.Firsts.{firsts, with_new, IsIndex, KeepsFirsts};
 
-use crate::candidate::{Candidate, push_new};
+use crate::candidate::Candidate;
+use crate::listing::Listing;
 use crate::naming::names;
 use bd_dev::{Bytes, Memory, Names};
 use bd_mode::Mode;
@@ -18,15 +19,17 @@ const NETWORK: &[u8] = b"net";
 /// Puts each name in the volume at the end, unless its text is shown already.
 fn push_volume(
     alloc: Global,
-    list: &mut Vec<Candidate>,
+    list: &mut Listing,
     names: &[Bytes],
     volume: &[u8],
 ) -> Result<(), Memory>
-    ensures { OnOk result
-        (list.new.items ≡ fold with_new list.old.items (map (local_file volume.now) names.now)) }
+    requires { IsIndex list.old.shown list.old.items.items }
+    ensures pushed { OnOk result (list.new.items.items
+        ≡ fold with_new list.old.items.items (map (local_file volume.now) names.now)) }
+    ensures index { OnOk result (IsIndex list.new.shown list.new.items.items) }
 {
     for name in names {
-        push_new(list, Candidate::local(alloc, volume, name.as_slice())?)?;
+        list.push(alloc, Candidate::local(alloc, volume, name.as_slice())?)?;
     }
     Ok(())
 }
@@ -35,13 +38,13 @@ fn push_volume(
 fn list_files(alloc: Global, names: &[Bytes], volumes: &[Bytes]) -> Result<Vec<Candidate>, Memory>
     ensures { IfOk result (λ list. list.items ≡ firsts (files_named names.now volumes.now)) }
 {
-    let mut list = Vec::new(alloc);
+    let mut list = Listing::new(alloc);
     for volume in volumes {
         if volume.as_slice() != NETWORK {
             push_volume(alloc, &mut list, names, volume.as_slice())?;
         }
     }
-    Ok(list)
+    Ok(list.items)
 }
 
 /// The candidates on local media, in the order in which they are tried: for each volume in the order given, but for

@@ -1,4 +1,4 @@
-use Rattle.std.proofs.Common.{arith}
+use Rattle.std.proofs.Common.{arith, ◌∙◌}
 use Rattle.bd_dev.proofs.Appending.{Appends-more}
 use Rattle.bd_dev.proofs.sink.write_all.Goals as goal
 
@@ -6,5 +6,5 @@ pub loop-done-preserved : goal.loop-done-preserved
 loop-done-preserved g c = record {
   within = omega (arith, c.in_ok-done.ensures.taken.fits);
   taken = Appends-more _ _ _ c.args.bytes.now c.loop-done.done c.in_ok-done.field-0 c.loop-done.invariant.within c.loop-done.invariant.taken c.in_ok-done.ensures.taken.appended;
-  later = omega (arith, c.write.ensures.cause.later, c.loop-done.invariant.later);
+  quiet = c.in_ok-done.ensures.cause.quiet ∙ c.loop-done.invariant.quiet;
 }

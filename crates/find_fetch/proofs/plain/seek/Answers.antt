@@ -1,9 +1,7 @@
 use Rattle.std.proofs.Common.{ℕ, ◌+◌, List, get_or, ap, subst, ◌∙◌}
-use Rattle.bd_dev.specs.Rows.{arrivals}
 use Rattle.bd_dev.specs.Sink.{Appends, AppendsFront}
 use Rattle.flow.specs.declared.flows.Flow.{Flow}
 use Rattle.trace_text.specs.TraceText.{trace_text}
-use Rattle.find_fetch.specs.Aim.{label_of}
 use Rattle.find_fetch.specs.declared.body_core.BodyCore.{BodyCore}
 use Rattle.find_fetch.proofs.Seeking.{found_one, front_none, on_err, one_at, sought_one}
 use Rattle.find_fetch.proofs.plain.seek.Goals as goal
@@ -37,8 +35,7 @@ returns-clause-found g c = λ rows told.
     c.in_ok-label.label c.in_ok-core.core c.from_mut.result.now c.run.new.flows c.new-sends.result c.run.new.sends _ _ _ flow
     c.in_ok-run.ensures.phase c.from_mut.ensures.value c.in_ok-label.ensures c.in_ok-core.ensures.client c.new-sends.ensures
     (c.run.auto.flows ∙ c.from_mut.ensures.len) rows told in
-    found_one c.args.aim.now c.args.host.now _ _ _ rows c.in_ok-core.core (get_or c.run.new.flows 0 flow).core _ _ c.result.result sought c.in_ok-core.ensures.client
-    (c.in_ok-core.ensures.finds (arrivals rows c.args.round (label_of c.args.aim.now c.args.host.now))) c.result.ensures
+    found_one (get_or c.run.new.flows 0 flow).core _ c.result.result sought.found_is c.result.ensures.found
 
 pub returns-clause-passed : goal.returns-clause-passed
 returns-clause-passed g c = λ rows told.

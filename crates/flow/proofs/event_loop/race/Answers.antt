@@ -1,4 +1,4 @@
-use Rattle.std.proofs.Common.{◌∙◌, arith, length, refl, subst, sym}
+use Rattle.std.proofs.Common.{◌∙◌, length, refl, subst, sym}
 use Rattle.flow.specs.Running.{FollowOwnRuns, no_counts}
 use Rattle.flow.proofs.event_loop.race.Goals as goal
 
@@ -10,7 +10,7 @@ loop-place-init g c =
       posted = λ start posted. posted;
       opened = refl;
       rows = refl;
-      faults = omega arith;
+      faults = refl;
     }
 
 pub loop-place-preserved : goal.loop-place-preserved
@@ -26,5 +26,5 @@ loop-place-preserved g c =
       posted = λ start posted. t.posted start (v.posted start posted);
       opened = e.opened ∙ v.opened;
       rows = e.rows ∙ v.rows;
-      faults = (let a = v.faults in let b = e.cause.later in omega (arith, a, b));
+      faults = e.cause.quiet (λ same. cc) ∙ v.faults;
     }

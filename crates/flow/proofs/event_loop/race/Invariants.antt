@@ -1,4 +1,4 @@
-use Rattle.std.proofs.Common.{◌≡◌, ◌≤◌, List, Option, length}
+use Rattle.std.proofs.Common.{◌≡◌, List, Option, length}
 use Rattle.bd_dev.specs.Net.{Outgoing}
 use Rattle.flow.specs.declared.flows.Flow.{Flow}
 use Rattle.flow.specs.Sends.{ArePosted}
@@ -13,7 +13,7 @@ invariant-loop-place g l = record {
   posted : (start : Option (List Outgoing)) → ArePosted l.fn.sends.items start (g.N.Net.sent l.fn.net) → ArePosted l.sends.items start (g.N.Net.sent l.net);
   opened : g.N.Net.opened l.net ≡ g.N.Net.opened l.fn.net;
   rows : g.N.Net.rows l.net ≡ g.N.Net.rows l.fn.net;
-  faults : g.N.Net.faults l.fn.net ≤ g.N.Net.faults l.net;
+  faults : g.N.Net.faults l.net ≡ g.N.Net.faults l.fn.net;
 }
 
 abbrev pub decreases-loop-place : goal.decreases-loop-place

@@ -28,7 +28,7 @@ loop-place-init g c =
       number = λ some. absurd (omega (arith, some));
       time = refl;
       rows = refl;
-      faults = omega arith;
+      faults = refl;
     }
 
 pub loop-place-preserved : goal.loop-place-preserved
@@ -52,7 +52,7 @@ loop-place-preserved g c =
       ];
       time = e.time ∙ v.time;
       rows = e.rows ∙ v.rows;
-      faults = (let a = v.faults in let b = e.cause.later in omega (arith, a, b));
+      faults = e.cause.quiet (λ same. cc) ∙ v.faults;
     }
 
 pub close_all-requires : goal.close_all-requires

@@ -1,4 +1,4 @@
-use Rattle.std.proofs.Common.{◌≡◌, ◌≤◌, ◌<◌, ◌+◌}
+use Rattle.std.proofs.Common.{◌≡◌, ◌<◌, ◌+◌}
 use Rattle.flow.specs.Running.{IsOpening}
 use Rattle.flow.proofs.opens.open_all.Given as goal
 
@@ -10,5 +10,5 @@ invariant-loop-place g l = record {
   number : 0 < l.place → l.first ≡ g.N.Net.opened l.fn.net;
   time : g.N.Net.time l.net ≡ g.N.Net.time l.fn.net;
   rows : g.N.Net.rows l.net ≡ g.N.Net.rows l.fn.net;
-  faults : g.N.Net.faults l.fn.net ≤ g.N.Net.faults l.net;
+  faults : g.N.Net.faults l.net ≡ g.N.Net.faults l.fn.net;
 }

@@ -1,4 +1,4 @@
-use Rattle.std.proofs.Common.{◌∙◌, ◌∷◌, [], subst, arith}
+use Rattle.std.proofs.Common.{◌∙◌, ◌∷◌, [], subst}
 use Rattle.flow.specs.Sends.{Files, PostsAll, sent_at}
 use Rattle.flow.proofs.Order.{post_more}
 use Rattle.flow.proofs.Sending.{posts_more}
@@ -20,5 +20,5 @@ loop-letter-preserved g c =
       opened = e.opened ∙ v.opened;
       time = e.time ∙ v.time;
       rows = e.rows ∙ v.rows;
-      faults = (let a = v.faults in let b = e.cause.later in omega (arith, a, b));
+      faults = e.cause.quiet (λ same. cc) ∙ v.faults;
     }

@@ -1,4 +1,4 @@
-use Rattle.std.proofs.Common.{◌≡◌, ◌≤◌, ℕ, map, take}
+use Rattle.std.proofs.Common.{◌≡◌, ℕ, map, take}
 use Rattle.flow.specs.Sends.{Files, PostsAll, sent_at}
 use Rattle.flow.proofs.posting.post.Given as goal
 
@@ -10,5 +10,5 @@ invariant-loop-letter g l = record {
   opened : g.N.Net.opened l.net ≡ g.N.Net.opened l.fn.net;
   time : g.N.Net.time l.net ≡ g.N.Net.time l.fn.net;
   rows : g.N.Net.rows l.net ≡ g.N.Net.rows l.fn.net;
-  faults : g.N.Net.faults l.fn.net ≤ g.N.Net.faults l.net;
+  faults : g.N.Net.faults l.net ≡ g.N.Net.faults l.fn.net;
 }

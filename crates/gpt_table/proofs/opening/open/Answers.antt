@@ -1,4 +1,4 @@
-use Rattle.gpt_table.proofs.Repairs.{look_opens, open_opens, open_reads, open_touches}
+use Rattle.gpt_table.proofs.Repairs.{look_opens, open_lesser, open_look, open_opens, open_reads, open_touches}
 use Rattle.gpt_table.proofs.opening.open.Goals as goal
 
 pub returns-in_err-table-clause-crash : goal.returns-in_err-table-clause-crash
@@ -40,3 +40,14 @@ returns-clause-touches g c = open_touches (g.P.Plant.view c.args.plant.now) (g.P
 pub returns-clause-agreeing : goal.returns-clause-agreeing
 returns-clause-agreeing g c = λ tells t both.
     open_reads (g.P.Plant.view c.args.plant.now) (g.P.Plant.view c.look.new.plant) (g.P.Plant.view c.repair.new.plant) c.in_ok-table.ensures.looks tells t both (c.repair.ensures.agreeing (c.in_ok-table.ensures.looks.continues.still_tells tells) t)
+
+pub returns-in_err-table-clause-lesser : goal.returns-in_err-table-clause-lesser
+returns-in_err-table-clause-lesser g c = λ tells. open_look (g.P.Plant.view c.args.plant.now) (g.P.Plant.view c.look.new.plant) (g.P.Plant.view c.look.new.plant) c.look.ensures.looks tells
+
+pub returns-in_err-repair-clause-lesser : goal.returns-in_err-repair-clause-lesser
+returns-in_err-repair-clause-lesser g c = λ tells.
+    open_lesser (g.P.Plant.view c.args.plant.now) (g.P.Plant.view c.look.new.plant) (g.P.Plant.view c.repair.new.plant) c.in_ok-table.ensures.looks tells _ _ (c.in_ok-table.ensures.found tells) c.repair.ensures.lesser
+
+pub returns-clause-lesser : goal.returns-clause-lesser
+returns-clause-lesser g c = λ tells.
+    open_lesser (g.P.Plant.view c.args.plant.now) (g.P.Plant.view c.look.new.plant) (g.P.Plant.view c.repair.new.plant) c.in_ok-table.ensures.looks tells _ _ (c.in_ok-table.ensures.found tells) c.repair.ensures.lesser

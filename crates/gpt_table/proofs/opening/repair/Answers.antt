@@ -1,5 +1,5 @@
 use Rattle.std.proofs.Common.{◌≡◌, true, false, sym, ◌∙◌}
-use Rattle.gpt_table.proofs.Repairs.{agreeing, agrees, look_opens, repair_opens, repair_reads, repair_touches}
+use Rattle.gpt_table.proofs.Repairs.{agreeing, agrees, look_opens, repair_lesser, repair_opens, repair_reads, repair_touches}
 use Rattle.gpt_table.proofs.opening.repair.Goals as goal
 
 pub returns-in_err-read_table-clause-crash : goal.returns-in_err-read_table-clause-crash
@@ -63,3 +63,13 @@ pub returns-clause-both : goal.returns-clause-both
 returns-clause-both g c = λ tells.
     repair_reads c.sectors-sectors.result c.other_of-lesser.result c.args.read_from c.args.table.now (g.P.Plant.view c.args.plant.now) (g.P.Plant.view c.read_table.new.plant) (g.P.Plant.view c.write_table.new.plant) c.sectors-sectors.ensures c.other_of-lesser.ensures c.requires.fits c.in_ok-read_table.ensures.looks
     tells (c.requires.found tells) (record { touches = c.write_table.ensures.touches; between = c.write_table.ensures.between }) (c.in_ok-write_table.ensures.reads (c.in_ok-read_table.ensures.looks.continues.still_tells tells))
+
+pub returns-in_err-write_table-clause-lesser : goal.returns-in_err-write_table-clause-lesser
+returns-in_err-write_table-clause-lesser g c =
+    repair_lesser c.sectors-sectors.result c.other_of-lesser.result c.args.read_from c.args.table.now (g.P.Plant.view c.args.plant.now) (g.P.Plant.view c.read_table.new.plant) (g.P.Plant.view c.write_table.new.plant) c.sectors-sectors.ensures c.other_of-lesser.ensures c.requires.fits c.in_ok-read_table.ensures.looks
+    c.write_table.ensures.touches
+
+pub returns-clause-lesser : goal.returns-clause-lesser
+returns-clause-lesser g c =
+    repair_lesser c.sectors-sectors.result c.other_of-lesser.result c.args.read_from c.args.table.now (g.P.Plant.view c.args.plant.now) (g.P.Plant.view c.read_table.new.plant) (g.P.Plant.view c.write_table.new.plant) c.sectors-sectors.ensures c.other_of-lesser.ensures c.requires.fits c.in_ok-read_table.ensures.looks
+    c.write_table.ensures.touches

@@ -1,4 +1,4 @@
-use Rattle.std.proofs.Common.{rules, ◌≡◌, ◌++◌, ◌∷◌, [], List, arith, sym, ap, ◌∙◌, append_assoc, Some}
+use Rattle.std.proofs.Common.{rules, ◌≡◌, ◌++◌, ◌∷◌, [], List, sym, ap, ◌∙◌, append_assoc, Some}
 use Rattle.std.specs.Prelude.{option_to_list}
 use Rattle.std.specs.Vec.Iter.{into_iter_items}
 use Rattle.net_script.specs.declared.line.Numbered.{Numbered}
@@ -22,8 +22,9 @@ loop-numbered-preserved g c =
     let goes : into_iter_items c.loop-numbered.numbered-iterator ≡ n ∷ into_iter_items c.next.new.self = c.in-Some.ensures.steps.0 in
     record {
       kept = c.served.ensures.kept ∙ i.kept;
-      later = (let a = i.later in let b = c.served.ensures.cause.later in omega (arith, a, b));
+      quiet = c.in_ok-feed.ensures.cause.quiet (λ e. absurd (cc e)) ∙ i.quiet;
       left = i.left ∙ (ap (λ (ns : List Numbered). c.loop-numbered.yielded ++ ns) goes ∙ sym (append_assoc c.loop-numbered.yielded (n ∷ []) (into_iter_items c.next.new.self)));
+      known = λ volumes told. c.in_ok-feed.ensures.known volumes (i.kept ∙ told);
       told = λ volumes told.
           (let so_far = i.told volumes told in
           let here = c.in_ok-feed.ensures.served volumes (i.kept ∙ told) in (
@@ -31,3 +32,6 @@ loop-numbered-preserved g c =
             lacking_more volumes c.loop-numbered.yielded n so_far.1 here.1,
           ));
     }
+
+pub served-requires : goal.served-requires
+served-requires g c = λ volumes told. c.loop-numbered.invariant.known volumes (sym c.loop-numbered.invariant.kept ∙ told)

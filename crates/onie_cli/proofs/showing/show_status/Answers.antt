@@ -2,7 +2,7 @@ use Rattle.std.proofs.Common.{Err, ap, ◌∙◌, sym, subst}
 use Rattle.bd_dev.specs.Sink.{Appends, AppendsFront}
 use Rattle.soundness.proofs.Verdicts.{sound_not_unsound}
 use Rattle.storage_model.specs.Disk.{Found}
-use Rattle.storage_model.specs.Slots.{Stored}
+use Rattle.slot_model.specs.Slots.{Stored}
 use Rattle.onie_cli.specs.ShowStatus.{Holds}
 use Rattle.onie_cli.proofs.showing.show_status.Goals as goal
 

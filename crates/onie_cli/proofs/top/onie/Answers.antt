@@ -1,6 +1,6 @@
 use Rattle.std.proofs.Common.{◌≡◌, ◌⊎◌, ℕ, List, Bor, [], refl, sym, ap, subst, ◌∙◌}
 use Rattle.bd_dev.specs.Faults.{Rose}
-use Rattle.plant_runs.proofs.Joins.{looks_now}
+use Rattle.bd_dev.proofs.Joins.{looks_now}
 use Rattle.onie_cli.specs.declared.status.Outcome.TheVariants as outcomes
 use Rattle.onie_cli.specs.declared.status.Status.TheVariants as statuses
 use Rattle.onie_cli.specs.ChangeVariable.{IsChangeAnswer, MakesChange, set_change, unset_change}

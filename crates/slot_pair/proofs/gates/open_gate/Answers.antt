@@ -1,7 +1,7 @@
 use Rattle.std.proofs.Common.{◌≡◌, List, ℕ, ◌*◌, length, take, true, sym, ◌∙◌, ap, arith}
 use Rattle.bd_dev.specs.Content.{window}
 use Rattle.std.specs.Str.{bytes_eq}
-use Rattle.storage_model.specs.Slots.{open_word}
+use Rattle.slot_model.specs.Slots.{open_word}
 use Rattle.slot_pair.proofs.OpenGates.{gate_is}
 use Rattle.slot_pair.proofs.gates.open_gate.Goals as goal
 

@@ -1,5 +1,6 @@
 use Rattle.std.proofs.Common.{◌<◌, inl, arith}
-use Rattle.plant_runs.proofs.Touch.{leaves_weaker, touch_then}
+use Rattle.bd_dev.proofs.Joins.{writes_then, writes_wider}
+use Rattle.bd_dev.proofs.Touch.{leaves_weaker, touch_then}
 use Rattle.slot_pair.proofs.Spelling.{spelled}
 use Rattle.slot_pair.proofs.Replacing.{opened, then_opening, touch_body, touch_gate, while_opening, while_writing}
 use Rattle.slot_pair.proofs.slots.fill_slot.Goals as goal
@@ -53,3 +54,12 @@ pub returns-clause-bytes : goal.returns-clause-bytes
 returns-clause-bytes g c = λ tells.
     let now = c.write_body.ensures.touches.continues.still_tells tells in
     spelled _ _ _ _ _ _ (c.in_ok-write_body.ensures.bytes tells) (c.open_gate.ensures.touches.told now) (c.in_ok-open_gate.ensures.bytes now)
+
+pub returns-in_err-write_body-clause-wears : goal.returns-in_err-write_body-clause-wears
+returns-in_err-write_body-clause-wears g c = λ tells. writes_wider _ _ _ _ _ (omega arith) (c.write_body.ensures.wears tells)
+
+pub returns-in_err-open_gate-clause-wears : goal.returns-in_err-open_gate-clause-wears
+returns-in_err-open_gate-clause-wears g c = λ tells. writes_then _ _ 1 _ _ _ (c.write_body.ensures.wears tells) (c.open_gate.ensures.wears (c.write_body.ensures.touches.continues.still_tells tells))
+
+pub returns-clause-wears : goal.returns-clause-wears
+returns-clause-wears g c = λ tells. writes_then _ _ 1 _ _ _ (c.write_body.ensures.wears tells) (c.open_gate.ensures.wears (c.write_body.ensures.touches.continues.still_tells tells))

@@ -1,7 +1,7 @@
 use Rattle.std.proofs.Common.{◌≡◌, Err, sym, ◌∙◌, ap, subst}
 use Rattle.std.proofs.lemmas.Option.{same_Some}
 use Rattle.boot_vars.proofs.BadLines.{no_bad_line}
-use Rattle.storage_model.specs.Slots.{Stored}
+use Rattle.slot_model.specs.Slots.{Stored}
 use Rattle.storage_model.specs.Variables.{IsText}
 use Rattle.soundness.proofs.judging.open_vars.Goals as goal
 

@@ -1,4 +1,4 @@
-use Rattle.std.proofs.Common.{get_or, arith}
+use Rattle.std.proofs.Common.{get_or, ◌∙◌}
 use Rattle.std.proofs.lemmas.List.{get_or_default}
 use Rattle.bd_dev.proofs.Lines.{OnErr-always}
 use Rattle.status_text.proofs.Texts.{front_of_an_entry, one_more_entry}
@@ -11,5 +11,5 @@ returns-in_err-print_used-clause-front g c =
 pub loop-place-preserved : goal.loop-place-preserved
 loop-place-preserved g c = record {
   written = one_more_entry 1 _ _ _ c.args.entries.now c.loop-place.place (get_or c.args.entries.now c.loop-place.place _) c.loop-place-test.true (get_or_default c.args.entries.now c.loop-place.place _ _ c.loop-place-test.true) c.loop-place.invariant.written c.in_ok-print_used.ensures.written;
-  later = omega (arith, c.print_used.ensures.cause.later, c.loop-place.invariant.later);
+  quiet = c.in_ok-print_used.ensures.cause.quiet ∙ c.loop-place.invariant.quiet;
 }

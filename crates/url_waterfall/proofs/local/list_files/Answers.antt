@@ -7,4 +7,4 @@ use Rattle.url_waterfall.proofs.local.list_files.Goals as goal
 pub returns : goal.returns
 returns c =
     let whole = take_all c.loop-volume.volume-index c.args.volumes.now (omega arith) in
-    rw whole at c.loop-volume.invariant ∙ fold-with_new_nil (files_named c.args.names.now c.args.volumes.now)
+    rw whole at c.loop-volume.invariant.pushed ∙ fold-with_new_nil (files_named c.args.names.now c.args.volumes.now)

@@ -1,6 +1,8 @@
-use Rattle.std.proofs.Common.{inl, inr, refl}
+use Rattle.std.proofs.Common.{take, inl, inr, refl}
+use Rattle.cuts.specs.declared.effect.Effect.TheVariants.{Vars as SetVars}
 use Rattle.board.proofs.Keeping.{keeps_still}
-use Rattle.board.proofs.VariableChanges.{keeps_vars}
+use Rattle.board.proofs.Leaving.{is_after, may_run}
+use Rattle.board.proofs.VariableChanges.{is_lawful_text, keeps_vars}
 use Rattle.board.proofs.board.Board.put_text.Goals as goal
 
 pub returns-in-Err-clause-keeps : goal.returns-in-Err-clause-keeps
@@ -11,13 +13,21 @@ returns-in-Err-clause-keeps g c =
 
 pub returns-in-Err-store-clause-keeps : goal.returns-in-Err-store-clause-keeps
 returns-in-Err-store-clause-keeps g c =
-    keeps_vars (g.P.Plant.view c.args.self.now.plant.now) (g.P.Plant.view c.store.new.plant) c.args.self.now.held _ _ (g.met.P.Plant.honest c.store.new.plant) c.requires.live
+    keeps_vars (g.P.Plant.view c.args.self.now.plant.now) (g.P.Plant.view c.store.new.plant) c.args.self.now.held _ _ (is_lawful_text c.args.self.now.held.vars.pair.number c.args.length _ c.requires.lines c.requires.number) (g.met.P.Plant.honest c.store.new.plant) c.requires.live
     c.in-Err-store.ensures.changes refl c.in_default.ensures.noted.effects (inl refl)
 
 pub returns-clause-keeps : goal.returns-clause-keeps
 returns-clause-keeps g c =
-    keeps_vars (g.P.Plant.view c.args.self.now.plant.now) (g.P.Plant.view c.store.new.plant) c.args.self.now.held _ _ (g.met.P.Plant.honest c.store.new.plant) c.requires.live
+    keeps_vars (g.P.Plant.view c.args.self.now.plant.now) (g.P.Plant.view c.store.new.plant) c.args.self.now.held _ _ (is_lawful_text c.args.self.now.held.vars.pair.number c.args.length _ c.requires.lines c.requires.number) (g.met.P.Plant.honest c.store.new.plant) c.requires.live
     c.in_default-store.ensures.changes refl c.in_default.ensures.noted.effects (inr (c.in_default-store.ensures.set, c.in_default-store.ensures.durable))
 
 pub returns-clause-live : goal.returns-clause-live
 returns-clause-live g c = (returns-clause-keeps g c).live c.requires.live.live
+
+pub returns-in-Err-store-clause-leaves : goal.returns-in-Err-store-clause-leaves
+returns-in-Err-store-clause-leaves g c = may_run (SetVars (take c.args.length c.args.text.now)) (g.P.Plant.view c.args.self.now.plant.now) (g.P.Plant.view c.store.new.plant) c.args.self.now.held _
+    (returns-in-Err-store-clause-keeps g c) (record { effects = c.in_default.ensures.noted.effects; failed = refl })
+
+pub returns-clause-leaves : goal.returns-clause-leaves
+returns-clause-leaves g c = is_after (SetVars (take c.args.length c.args.text.now)) (g.P.Plant.view c.args.self.now.plant.now) (g.P.Plant.view c.store.new.plant) c.args.self.now.held _
+    (returns-clause-keeps g c) (record { effects = c.in_default.ensures.noted.effects; failed = c.requires.live.live })

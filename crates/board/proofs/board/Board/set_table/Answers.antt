@@ -1,4 +1,8 @@
 use Rattle.std.proofs.Common.{inl, inr, refl}
+use Rattle.cuts.specs.declared.effect.Effect.TheVariants.{Table as SetTable}
+use Rattle.bd_dev.specs.declared.plant.Area.TheVariants.{Disk}
+use Rattle.bd_dev.proofs.Joins.{writes_none}
+use Rattle.board.proofs.Leaving.{is_after, may_run}
 use Rattle.board.proofs.Keeping.{keeps_still, keeps_table}
 use Rattle.board.proofs.board.Board.set_table.Goals as goal
 
@@ -26,3 +30,14 @@ returns-clause-keeps g c =
 
 pub returns-clause-live : goal.returns-clause-live
 returns-clause-live g c = (returns-clause-keeps g c).live c.requires.live.live
+
+pub returns-in-Err-replace-clause-leaves : goal.returns-in-Err-replace-clause-leaves
+returns-in-Err-replace-clause-leaves g c = may_run (SetTable c.args.table.now) (g.P.Plant.view c.args.self.now.plant.now) (g.P.Plant.view c.replace.new.plant) c.args.self.now.held _
+    (returns-in-Err-replace-clause-keeps g c) (record { effects = c.in_default.ensures.noted.effects; failed = refl })
+
+pub returns-clause-leaves : goal.returns-clause-leaves
+returns-clause-leaves g c = is_after (SetTable c.args.table.now) (g.P.Plant.view c.args.self.now.plant.now) (g.P.Plant.view c.replace.new.plant) c.args.self.now.held _
+    (returns-clause-keeps g c) (record { effects = c.in_default.ensures.noted.effects; failed = c.requires.live.live })
+
+pub returns-in-Err-clause-wears : goal.returns-in-Err-clause-wears
+returns-in-Err-clause-wears g c = λ t. let v = g.P.Plant.view c.args.self.now.plant.now in writes_none Disk 66 v v refl

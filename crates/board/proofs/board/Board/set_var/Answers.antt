@@ -2,8 +2,11 @@ use Rattle.std.proofs.Common.{◌≡◌, List, ℕ, Option, Err, refl, ap, subst
 use Rattle.boot_vars.specs.declared.fault.VarFault.{VarFault}
 use Rattle.cuts.specs.declared.effect.Effect.TheVariants.{Vars as SetVars}
 use Rattle.board.specs.Changes.{Does, IsAnswer, of_var_refusal}
+use Rattle.boot_vars.specs.Setting.{with_variable}
+use Rattle.storage_model.specs.Variables.{lines_of}
+use Rattle.board.specs.Held.{Leaves}
 use Rattle.board.proofs.Keeping.{keeps_now}
-use Rattle.board.proofs.VariableChanges.{refused_answer, refused_effect}
+use Rattle.board.proofs.VariableChanges.{refused_answer, refused_effect, refused_leaves}
 use Rattle.board.proofs.board.Board.set_var.Goals as goal
 
 pub returns-in_err-length-clause-answer : goal.returns-in_err-length-clause-answer
@@ -26,3 +29,12 @@ pub returns-clause-effect : goal.returns-clause-effect
 returns-clause-effect g c = λ vs spells.
     subst (λ (t : List ℕ). Does (SetVars t) (c.put_text.new.self.plant.now ≡ c.args.self.now.plant.now) c.put_text.result c.args.self.now.held c.put_text.new.self.held)
     (c.in_ok-length.ensures.lines vs spells) c.put_text.ensures.effect
+
+pub returns-in_err-length-clause-leaves : goal.returns-in_err-length-clause-leaves
+returns-in_err-length-clause-leaves g c = λ vs spells.
+    refused_leaves (SetVars (lines_of (with_variable vs (record { name = c.args.name.now; value = c.args.value.now })))) (g.P.Plant.view c.args.self.now.plant.now) (g.P.Plant.view c.args.self.now.plant.now) c.args.self.now.held c.args.self.now.held c.from_residual.result c.in_err-length.field-0.0 c.from_residual.ensures.1 (λ e. c.in_err-length.ensures.never (ap Err e))
+
+pub returns-clause-leaves : goal.returns-clause-leaves
+returns-clause-leaves g c = λ vs spells.
+    subst (λ (t : List ℕ). Leaves (SetVars t) c.put_text.result (g.P.Plant.view c.args.self.now.plant.now) c.args.self.now.held (g.P.Plant.view c.put_text.new.self.plant.now) c.put_text.new.self.held)
+    (c.in_ok-length.ensures.lines vs spells) c.put_text.ensures.leaves

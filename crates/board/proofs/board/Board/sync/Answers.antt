@@ -1,4 +1,8 @@
 use Rattle.std.proofs.Common.{inl, inr, refl}
+use Rattle.cuts.specs.declared.effect.Effect.TheVariants.{Sync}
+use Rattle.bd_dev.specs.declared.plant.Area.TheVariants.{Disk}
+use Rattle.bd_dev.proofs.Joins.{writes_none}
+use Rattle.board.proofs.Leaving.{is_after, may_run}
 use Rattle.board.proofs.Keeping.{keeps_still, keeps_sync}
 use Rattle.board.proofs.board.Board.sync.Goals as goal
 
@@ -22,3 +26,20 @@ returns-clause-keeps g c =
 
 pub returns-clause-live : goal.returns-clause-live
 returns-clause-live g c = (returns-clause-keeps g c).live c.requires.live.live
+
+pub returns-in-Err-sync_area-clause-leaves : goal.returns-in-Err-sync_area-clause-leaves
+returns-in-Err-sync_area-clause-leaves g c = may_run Sync (g.P.Plant.view c.args.self.now.plant.now) (g.P.Plant.view c.sync_area.new.plant) c.args.self.now.held _
+    (returns-in-Err-sync_area-clause-keeps g c) (record { effects = c.in_default.ensures.noted.effects; failed = refl })
+
+pub returns-clause-leaves : goal.returns-clause-leaves
+returns-clause-leaves g c = is_after Sync (g.P.Plant.view c.args.self.now.plant.now) (g.P.Plant.view c.sync_area.new.plant) c.args.self.now.held _
+    (returns-clause-keeps g c) (record { effects = c.in_default.ensures.noted.effects; failed = c.requires.live.live })
+
+pub returns-in-Err-clause-wears : goal.returns-in-Err-clause-wears
+returns-in-Err-clause-wears g c = λ t. let v = g.P.Plant.view c.args.self.now.plant.now in writes_none Disk 0 v v refl
+
+pub returns-in-Err-sync_area-clause-wears : goal.returns-in-Err-sync_area-clause-wears
+returns-in-Err-sync_area-clause-wears g c = λ t. writes_none Disk 0 (g.P.Plant.view c.args.self.now.plant.now) (g.P.Plant.view c.sync_area.new.plant) (c.in-Err-sync_area.ensures.wears t)
+
+pub returns-clause-wears : goal.returns-clause-wears
+returns-clause-wears g c = λ t. writes_none Disk 0 (g.P.Plant.view c.args.self.now.plant.now) (g.P.Plant.view c.sync_area.new.plant) (c.in_default-sync_area.ensures.wears t)

@@ -1,8 +1,11 @@
 use Rattle.std.proofs.Common.{◌≡◌, ◌∙◌, inl, None, Some, Option, Ok, Err, refl, ap, subst}
 use Rattle.boot_vars.specs.declared.fault.VarFault.{VarFault}
+use Rattle.cuts.specs.declared.effect.Effect.TheVariants.{Vars as SetVars}
+use Rattle.boot_vars.specs.Setting.{without}
+use Rattle.storage_model.specs.Variables.{lines_of}
 use Rattle.board.specs.Changes.{IsAnswer, of_var_refusal}
 use Rattle.board.proofs.Keeping.{keeps_now}
-use Rattle.board.proofs.VariableChanges.{refused_answer, refused_effect}
+use Rattle.board.proofs.VariableChanges.{refused_answer, refused_effect, refused_leaves}
 use Rattle.boot_vars.proofs.Setting.{absent_refusal}
 use Rattle.board.proofs.board.Board.unset_var.Goals as goal
 
@@ -30,3 +33,7 @@ pub returns-in_err-length-clause-done : goal.returns-in_err-length-clause-done
 returns-in_err-length-clause-done g c = λ vs spells none named.
     let same : Some c.in_err-length.field-0.0 ≡ None = c.in_err-length.ensures.refusal vs spells ∙ absent_refusal vs _ _ none named in
     cc
+
+pub returns-in_err-length-clause-leaves : goal.returns-in_err-length-clause-leaves
+returns-in_err-length-clause-leaves g c = λ vs spells some.
+    refused_leaves (SetVars (lines_of (without vs c.args.name.now))) (g.P.Plant.view c.args.self.now.plant.now) (g.P.Plant.view c.args.self.now.plant.now) c.args.self.now.held c.args.self.now.held c.from_residual.result c.in_err-length.field-0.0 c.from_residual.ensures.1 (λ e. c.in_err-length.ensures.never (ap Err e))

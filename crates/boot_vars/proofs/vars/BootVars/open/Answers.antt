@@ -1,6 +1,6 @@
 use Rattle.std.proofs.Common.{◌≡◌, inl, ℕ, List, take, Err, sym, ◌∙◌, ap, subst}
 use Rattle.std.proofs.lemmas.Option.{same_Some}
-use Rattle.storage_model.specs.Slots.{Stored}
+use Rattle.slot_model.specs.Slots.{Stored}
 use Rattle.storage_model.specs.Variables.{IsBadLine}
 use Rattle.boot_vars.specs.declared.fault.VarsFault.TheVariants.{BadLine}
 use Rattle.boot_vars.proofs.Kept.{kept as kept_of}

@@ -1,7 +1,7 @@
 use Rattle.std.proofs.Common.{◌≡◌, true, false, refl, ap, sym, ◌∙◌, arith}
 use Rattle.find_fetch.specs.Fetching.{seen}
 use Rattle.find_fetch.specs.declared.request.Spot.TheVariants.{At}
-use Rattle.find_fetch.proofs.Asking.{at_answer, at_left, at_made, called_answer, is_remote, on_ok, only_local, refused_answer}
+use Rattle.find_fetch.proofs.Asking.{at_answer, at_left, at_made, called_answer, is_remote, on_ok, only_local, refused_answer, refused_within}
 use Rattle.find_fetch.proofs.plain.PlainFetcher.fetch.Goals as goal
 
 pub returns-in_default : goal.returns-in_default
@@ -61,3 +61,12 @@ pub returns-in-At-clause-local : goal.returns-in-At-clause-local
 returns-in-At-clause-local g c = λ local.
     let remote : true ≡ false = sym local ∙ is_remote c.args.candidate.now c.in_ok-aim.field-0 c.in_ok-aim.ensures.aimed (λ e. cc (e, c.in-Aim.is)) in
     absurd (cc remote)
+
+pub returns-in-At-clause-offline : goal.returns-in-At-clause-offline
+returns-in-At-clause-offline g c = λ local.
+    let remote : true ≡ false = sym local ∙ is_remote c.args.candidate.now c.in_ok-aim.field-0 c.in_ok-aim.ensures.aimed (λ e. cc (e, c.in-Aim.is)) in
+    absurd (cc remote)
+
+pub returns-in-Refused-clause-within : goal.returns-in-Refused-clause-within
+returns-in-Refused-clause-within g c =
+    refused_within c.args.candidate.now c.in_ok-aim.field-0 c.in-Refused.miss c.in_ok-aim.ensures.aimed c.in-Refused.is

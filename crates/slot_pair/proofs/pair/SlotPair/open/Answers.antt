@@ -3,7 +3,7 @@ use Rattle.std.proofs.lemmas.Bool.Decides.{nat_tests}
 use Rattle.bd_dev.specs.Content.{Image}
 use Rattle.slot_pair.specs.Pair.{IsKept}
 use Rattle.slot_pair.proofs.Pairs.{kept, number_of}
-use Rattle.storage_model.specs.Slots.{slot}
+use Rattle.slot_model.specs.Slots.{slot}
 use Rattle.slot_pair.proofs.pair.SlotPair.open.Goals as goal
 
 pub returns-in-Some-clause-opened : goal.returns-in-Some-clause-opened

@@ -2,7 +2,7 @@ use Rattle.std.proofs.Common.{◌≡◌, ◌+◌, ◌*◌, ◌++◌, ℕ, List, 
 use Rattle.std.proofs.lemmas.List.{take-append-le}
 use Rattle.bd_dev.specs.declared.plant.Area.{Area}
 use Rattle.bd_dev.specs.Content.{window}
-use Rattle.storage_model.specs.Slots.{slot}
+use Rattle.slot_model.specs.Slots.{slot}
 use Rattle.slot_pair.specs.Pair.{Pair}
 use Rattle.slot_pair.proofs.Heads.{content_says}
 use Rattle.slot_pair.proofs.pair.SlotPair.read.Goals as goal

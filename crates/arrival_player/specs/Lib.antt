@@ -1,0 +1,4 @@
+pub mod Spots
+pub mod Earliest
+pub mod Flows
+pub mod Played

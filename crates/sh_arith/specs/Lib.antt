@@ -1,0 +1,10 @@
+pub mod Constant
+pub mod Grammar
+pub mod Names
+pub mod Number
+pub mod Numeral
+pub mod Operator
+pub mod Reading
+pub mod Text
+pub mod Token
+pub mod Tree

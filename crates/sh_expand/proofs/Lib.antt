@@ -1,0 +1,5 @@
+pub mod Fronts
+pub mod Items
+pub mod Scans
+pub mod Splitting
+pub mod Variables

@@ -1,0 +1,8 @@
+use Rattle.std.proofs.Common.{◌≤◌, length}
+use Rattle.sh_parser.proofs.reader.Reader.redirs.Given as goal
+
+abbrev pub invariant-redirs : goal.invariant-redirs
+invariant-redirs l = length l.self.rest.now ≤ length l.fn.self.rest.now
+
+abbrev pub decreases-redirs : goal.decreases-redirs
+decreases-redirs l = length l.self.rest.now

@@ -1,0 +1,4 @@
+pub mod Found
+pub mod Decided
+pub mod Around
+pub mod Sorting

@@ -1,0 +1,1 @@
+"""Boards: their folders, made and shown, and what the program says of them."""
