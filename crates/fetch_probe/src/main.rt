@@ -8,7 +8,7 @@
 
 ghost use Rattle.std.specs.Prelude.{◌≡◌, [], IfOk};
 
-use bd_dev::{Bytes, Media, Sink, Source, write_all};
+use bd_dev::{Bytes, Media, Sink, Source, read_source, write_all};
 use bd_file::{FileSink, FileSource, FolderMedia, OutSink};
 use bd_text::Mac;
 use fetch_text::{found_line, miss_line};
@@ -28,26 +28,6 @@ enum Stop {
 
 /// The most bytes of a script, and one more.
 const ENOUGH: usize = 16_777_217;
-
-/// All that the source gives, but no more than a script may have.
-fn read_all<S: Source>(alloc: Global, source: &mut S) -> Result<Bytes, Stop> {
-    let mut piece = [0u8; 65_536];
-    let Ok(mut text) = Bytes::from_slice(alloc, b"") else {
-        return Err(Stop::Failed);
-    };
-    while text.as_slice().len() < ENOUGH {
-        match source.read(&mut piece) {
-            Ok(0) => return Ok(text),
-            Ok(count) => {
-                if let Err(_memory) = text.push_slice(&piece[..count]) {
-                    return Err(Stop::Failed);
-                }
-            }
-            Err(_) => return Err(Stop::Failed),
-        }
-    }
-    Ok(text)
-}
 
 /// The URL, where the words after the program's name are just one.
 fn url(rt: &(impl Env + AllocGlobal)) -> Result<String, Stop> {
@@ -69,7 +49,9 @@ fn network<S: Source, M: Media>(
 ) -> Result<ScriptNet, Stop>
     ensures begins { IfOk result (λ net. (net.time ≡ 0) × (net.flows ≡ [])) }
 {
-    let text = read_all(alloc, source)?;
+    let Ok(text) = read_source(alloc, source, ENOUGH) else {
+        return Err(Stop::Failed);
+    };
     let Ok(script) = read_script(alloc, text.as_slice()) else {
         return Err(Stop::Failed);
     };
@@ -114,7 +96,7 @@ fn run(rt: &(impl Env + Files + Print + AllocGlobal + Clone + Drop)) -> Result<b
     let mut media = FolderMedia::new(rt, "media");
     let mut net = network(alloc, &mut FileSource::new(rt, "net.txt"), &mut media)?;
     let mut trace = FileSink::new(rt, "net.trace");
-    trace.clear();
+    trace.make_anew();
     let (line, found) = fetch(alloc, &mut net, &mut media, &mut trace, url.as_bytes())?;
     match write_all(&mut OutSink::new(rt), line.as_slice()) {
         Ok(()) => Ok(found),
