@@ -1,9 +1,9 @@
 -- What a search among a table's entries finds.
-use Rattle.std.proofs.Common.{◌≡◌, ◌≢◌, inl, inr, ℕ, ◌<◌, ◌≤◌, Bool, true, false, cond, ◌&&◌, not, nat_lt, length, get_or, slice_get, find, position, Option, Some, None, refl, sym, ◌∙◌, ap, subst, arith}
+use Rattle.std.proofs.Common.{◌≡◌, ◌≢◌, ℕ, ◌<◌, Bool, true, false, cond, ◌&&◌, not, nat_lt, length, get_or, slice_get, Option, Some, None, refl, sym, ◌∙◌, ap, arith}
 use Rattle.std.specs.Str.{bytes_eq}
 use Rattle.std.specs.List.{position_or_len}
 use Rattle.std.specs.Option.{option_and_then}
-use Rattle.std.proofs.lemmas.Bool.{cases_lt, lt-ltb}
+use Rattle.std.proofs.lemmas.Bool.{lt-ltb}
 use Rattle.std.proofs.lemmas.List.Folds.{find_at}
 use Rattle.std.proofs.lemmas.List.Sums.{position_or_len_is}
 use Rattle.std.proofs.lemmas.Option.{get_or_from_slice_get, slice_get-get_or, slice_get_within}
@@ -12,7 +12,8 @@ use Rattle.bd_text.specs.declared.guid.Guid.{Guid}
 use Rattle.gpt_copy.specs.declared.table.Entry.{Entry}
 use Rattle.gpt_copy.specs.declared.table.Table.{Table}
 use Rattle.storage_model.specs.Entries.{HasEntry, IsSane, OnieEntry, onie_type, unused_type}
-use Rattle.storage_model.specs.Choices.{entry_of, is_of, is_used_as, onie_part, onie_place}
+use Rattle.storage_model.specs.Choices.{entry_of, is_used_as, onie_part, onie_place}
+use Rattle.storage_model.specs.Tests.{is_of}
 
 -- GUIDs are the same where their bytes are
 same_guid : (g h : Guid) → bytes_eq g.bytes h.bytes ≡ true → g ≡ h

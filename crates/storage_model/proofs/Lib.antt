@@ -1,1 +1,6 @@
+pub mod BootLemmas
 mod ChoiceLemmas
+pub mod GuidText
+pub mod Lines
+pub mod NamedLemmas
+pub mod TestLemmas

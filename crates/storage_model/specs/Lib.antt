@@ -2,7 +2,9 @@ pub mod Disk
 pub mod Entries
 pub mod Copies
 pub mod Variables
+pub mod Named
 pub mod Image
+pub mod Tests
 pub mod Soundness
 pub mod Boots
 pub mod Choices
