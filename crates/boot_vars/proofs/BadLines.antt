@@ -10,9 +10,11 @@ use Rattle.std.proofs.lemmas.List.Elements.{Contains-append_right}
 use Rattle.std.proofs.lemmas.Map.Made.{Contains-tail}
 use Rattle.std.proofs.lemmas.Option.{cond_some}
 use Rattle.std.proofs.lemmas.Slice.Eq.{bytes_eq-Decides}
-use Rattle.boot_vars.specs.Lines.{is_end, is_next_line, line_in, next_line, variable_in}
+use Rattle.boot_vars.specs.Lines.{is_next_line, line_in, next_line}
+use Rattle.storage_model.specs.Tests.{is_end, variable_in}
 use Rattle.storage_model.specs.Variables.{AreVariables, IsBadLine, IsText, MayFollow, Spells, Variable, is_equals, is_variable, line_of, lines_of, names_of, value_among, value_of}
-use Rattle.boot_vars.proofs.LineParts.{assignment, equals_cut, length_line, line_cut, line_is, same_line, variable_of}
+use Rattle.storage_model.proofs.Lines.{assignment, equals_cut}
+use Rattle.boot_vars.proofs.LineParts.{length_line, line_cut, line_is, same_line, variable_of}
 use Rattle.boot_vars.proofs.Listing.{listed}
 
 -- a name of none of the variables has no value

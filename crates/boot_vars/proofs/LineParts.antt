@@ -1,43 +1,11 @@
 -- The parts of a variable's line.
-use Rattle.std.proofs.Common.{◌≡◌, ℕ, ◌+◌, ◌≤◌, List, [], ◌∷◌, ◌++◌, length, true, false, ◌&&◌, ◌==◌, nat_le, codes, refl, sym, ◌∙◌, ap, subst, arith, append_assoc, length-append}
-use Rattle.std.specs.List.{All, after_first, list_all, list_any}
-use Rattle.std.proofs.lemmas.Bool.{and_parts}
-use Rattle.std.proofs.lemmas.List.Elements.{All-append, All-cons, All-nil}
-use Rattle.boot_vars.specs.Lines.{is_end, line_in, variable_in}
-use Rattle.storage_model.specs.Variables.{Variable, is_equals, is_name, is_name_byte, is_value, is_variable, line_of}
-use Rattle.boot_vars.proofs.Firsts.{IsCut, apart, cut, joined}
-
--- a variable's line without its end
-abbrev pub assignment : Variable → List ℕ
-assignment v = v.name ++ codes "=" ++ v.value
-
-name_bytes : (name : List ℕ) → is_name name ≡ true → list_all is_name_byte name ≡ true
-unfolding is_name
-name_bytes name is = (and_parts (nat_le 1 (length name) && nat_le (length name) 64) (list_all is_name_byte name) is).1
-
-value_bytes : (value : List ℕ) → is_value value ≡ true → list_all (λ b. nat_le 0x20 b && nat_le b 0x7E) value ≡ true
-unfolding is_value
-value_bytes value is = is
-
-name_apart : (c : ℕ) (name : List ℕ) → is_name_byte c ≡ false → is_name name ≡ true → All (λ b. (b == c) ≡ false) name
-name_apart c name fails is = apart is_name_byte c name fails (name_bytes name is)
-
-pub equals_cut : (v : Variable) → is_variable v ≡ true → IsCut is_equals (assignment v) v.name v.value
-equals_cut v is =
-    let parts = and_parts (is_name v.name) (is_value v.value) is in
-    subst (λ (l : List ℕ). IsCut is_equals l v.name v.value) (sym (append_assoc (v.name) (codes "=") (v.value)))
-    (cut is_equals v.name 0x3D v.value (name_apart 0x3D v.name refl parts.0) refl)
-
-pub no_end : (v : Variable) → is_variable v ≡ true → All (λ b. is_end b ≡ false) (assignment v)
-no_end v is =
-    let parts = and_parts (is_name v.name) (is_value v.value) is in
-    let value = apart (λ b. nat_le 0x20 b && nat_le b 0x7E) 0 v.value refl (value_bytes v.value parts.1) in
-    All-append (λ b. is_end b ≡ false) (v.name ++ codes "=") v.value
-    (All-append (λ b. is_end b ≡ false) v.name (codes "=") (name_apart 0 v.name refl parts.0) (All-cons (λ b. is_end b ≡ false) 0x3D [] refl (All-nil (λ b. is_end b ≡ false))))
-    value
-
-pub line_then : (v : Variable) (rest : List ℕ) → line_of v ++ rest ≡ assignment v ++ 0 ∷ rest
-line_then v rest = append_assoc (assignment v) (0 ∷ []) (rest)
+use Rattle.std.proofs.Common.{◌≡◌, ℕ, ◌+◌, ◌≤◌, List, [], ◌∷◌, ◌++◌, length, true, codes, refl, sym, ◌∙◌, ap, subst, arith, append_assoc, length-append}
+use Rattle.std.specs.List.{after_first, list_any}
+use Rattle.boot_vars.specs.Lines.{line_in}
+use Rattle.storage_model.specs.Tests.{is_end, variable_in}
+use Rattle.storage_model.specs.Variables.{Variable, is_equals, is_variable, line_of}
+use Rattle.storage_model.proofs.Lines.{IsCut, assignment, cut, equals_cut, line_then, no_end}
+use Rattle.boot_vars.proofs.Firsts.{joined}
 
 pub line_cut : (v : Variable) (rest : List ℕ) → is_variable v ≡ true → IsCut is_end (line_of v ++ rest) (assignment v) rest
 line_cut v rest is = subst (λ (l : List ℕ). IsCut is_end l (assignment v) rest) (sym (line_then v rest)) (cut is_end (assignment v) 0 rest (no_end v is) refl)

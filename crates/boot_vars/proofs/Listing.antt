@@ -4,17 +4,13 @@ use Rattle.std.specs.List.{after_first, before_first, list_any, slice_split}
 use Rattle.std.specs.Str.{bytes_eq}
 use Rattle.std.specs.Option.{option_map}
 use Rattle.std.proofs.lemmas.Bool.{and_parts}
-use Rattle.std.proofs.lemmas.List.Splits.{slice_split_at}
-use Rattle.boot_vars.specs.Lines.{is_end}
-use Rattle.storage_model.specs.Variables.{AreVariables, Spells, Variable, is_equals, is_line_of, is_variable, line_of, lines_of, value_among, value_of}
-use Rattle.boot_vars.proofs.LineParts.{assignment, equals_cut, line_then, no_end}
+use Rattle.storage_model.specs.Tests.{is_end}
+use Rattle.storage_model.specs.Variables.{AreVariables, Spells, Variable, is_equals, is_line_of, is_variable, lines_of, value_among, value_of}
+use Rattle.storage_model.proofs.Lines.{assignment, equals_cut, first_line}
 
 -- the value in the first line of this name
 abbrev value_in : List (List ℕ) → List ℕ → Option (List ℕ)
 value_in lines name = option_map (after_first is_equals) (find (is_line_of name) lines)
-
-first_line : (v : Variable) (rest : List ℕ) → is_variable v ≡ true → slice_split is_end (line_of v ++ rest) ≡ assignment v ∷ slice_split is_end rest
-first_line v rest is = ap (slice_split is_end) (line_then v rest) ∙ slice_split_at is_end (assignment v) 0 rest (no_end v is) refl
 
 pub named : (v : Variable) (name : List ℕ) → is_variable v ≡ true → is_line_of name (assignment v) ≡ bytes_eq v.name name
 named v name is = let parts = equals_cut v is in λ i. parts.any i && bytes_eq (parts.before i) name

@@ -6,10 +6,11 @@ use Rattle.std.proofs.lemmas.Bool.{cases_Bool}
 use Rattle.std.proofs.lemmas.Grind.{flat_map-append}
 use Rattle.std.proofs.lemmas.List.{drop_at}
 use Rattle.std.proofs.lemmas.Slice.Eq.{bytes_eq-Decides}
-use Rattle.boot_vars.specs.Lines.{is_end}
+use Rattle.storage_model.specs.Tests.{is_end}
 use Rattle.boot_vars.specs.Places.{IsPlace}
 use Rattle.storage_model.specs.Variables.{AreVariables, IsText, MayFollow, Spells, Variable, is_line_of, is_variable, line_of, lines_of, value_among}
-use Rattle.boot_vars.proofs.LineParts.{assignment, length_line, line_cut}
+use Rattle.storage_model.proofs.Lines.{assignment}
+use Rattle.boot_vars.proofs.LineParts.{length_line, line_cut}
 use Rattle.boot_vars.proofs.Listing.{named}
 
 -- A text from its begin to here is the lines of variables of other names.

@@ -13,7 +13,8 @@ use Rattle.boot_vars.specs.Setting.{put_refusal, unset_refusal, with_variable, w
 use Rattle.boot_vars.specs.declared.fault.VarFault.TheVariants.{BadName}
 use Rattle.storage_model.specs.Variables.{AreVariables, IsText, Spells, Variable, is_name, is_variable, line_of, lines_of, names_of, value_among}
 use Rattle.boot_vars.proofs.BadLines.{fresh_name}
-use Rattle.boot_vars.proofs.LineParts.{assignment, length_line, same_line}
+use Rattle.storage_model.proofs.Lines.{assignment}
+use Rattle.boot_vars.proofs.LineParts.{length_line, same_line}
 use Rattle.boot_vars.proofs.Places.{rest_of, within as within_text}
 
 -- lines tell their variables

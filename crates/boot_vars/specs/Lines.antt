@@ -1,19 +1,12 @@
 -- The line at the front of a text.
-use Rattle.std.specs.Prelude.{ℕ, ◌+◌, ◌==◌, List, length, Bool, ◌&&◌, if◌then◌else◌, is_none, Option, Some, None}
-use Rattle.std.specs.List.{after_first, before_first, list_any}
-use Rattle.storage_model.specs.Variables.{Variable, is_equals, is_variable, value_of}
-
--- a zero byte, which ends a line
-abbrev pub is_end : ℕ → Bool
-is_end b = b == 0
+use Rattle.std.specs.Prelude.{ℕ, ◌+◌, List, length, Bool, ◌&&◌, if◌then◌else◌, is_none, Option, Some, None}
+use Rattle.std.specs.List.{before_first, list_any}
+use Rattle.storage_model.specs.Tests.{is_end, variable_in}
+use Rattle.storage_model.specs.Variables.{is_equals, is_variable, value_of}
 
 -- the line without its end
 abbrev pub line_in : List ℕ → List ℕ
 line_in text = before_first is_end text
-
--- the name and the value in a line
-abbrev pub variable_in : List ℕ → Variable
-variable_in line = record { name = before_first is_equals line; value = after_first is_equals line }
 
 -- the line in front is one of a variable of a new name
 unfoldable pub is_next_line : List ℕ → List ℕ → Bool

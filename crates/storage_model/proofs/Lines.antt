@@ -13,7 +13,7 @@ use Rattle.std.proofs.lemmas.List.Splits.{length-slice_split, slice_split_at}
 use Rattle.std.proofs.lemmas.List.Sums.{position_or_len_is}
 use Rattle.std.proofs.lemmas.Map.Views.{Contains-from_any}
 use Rattle.std.proofs.lemmas.Slice.Eq.{bytes_eq-Decides}
-use Rattle.storage_model.specs.Tests.{are_variables, is_text, variable_in, variables_among, variables_in}
+use Rattle.storage_model.specs.Tests.{are_variables, is_end, is_text, variable_in, variables_among, variables_in}
 use Rattle.storage_model.specs.Variables.{AreVariables, IsText, Variable, is_equals, is_name, is_name_byte, is_value, is_variable, line_of, lines_of, names_of}
 
 -- a list is these, then an element that passes, then those
@@ -63,10 +63,6 @@ equals_cut v is =
     let parts = and_parts (is_name v.name) (is_value v.value) is in
     subst (λ (l : List ℕ). IsCut is_equals l v.name v.value) (sym (append_assoc (v.name) (codes "=") (v.value)))
     (cut is_equals v.name 0x3D v.value (name_apart 0x3D v.name refl parts.0) refl)
-
--- a zero byte ends a line
-abbrev pub is_end : ℕ → Bool
-is_end b = b == 0
 
 pub no_end : (v : Variable) → is_variable v ≡ true → All (λ b. is_end b ≡ false) (assignment v)
 no_end v is =

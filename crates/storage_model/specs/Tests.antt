@@ -74,6 +74,10 @@ has_nos t g = any_used t (λ i e. bytes_eq e.guid.bytes g.bytes && not (is_of on
 
 -- ---- texts
 
+-- a zero byte, which ends a line
+abbrev pub is_end : ℕ → Bool
+is_end b = b == 0
+
 -- the name and the value in a line
 abbrev pub variable_in : List ℕ → Variable
 variable_in line = record { name = before_first is_equals line; value = after_first is_equals line }
@@ -85,7 +89,7 @@ variables_among (line ∷ []) = []
 variables_among (line ∷ next ∷ lines) = variable_in line ∷ variables_among (next ∷ lines)
 
 abbrev pub variables_in : List ℕ → List Variable
-variables_in text = variables_among (slice_split (λ b. b == 0) text)
+variables_in text = variables_among (slice_split is_end text)
 
 -- these are variables, each with a name that none before it has
 abbrev pub are_variables : List Variable → List Variable → Bool

@@ -1,9 +1,9 @@
 use Rattle.std.proofs.Common.{◌≡◌, ◌+◌, List, ℕ, length, drop, sym, ◌∙◌, ap, arith}
 use Rattle.std.specs.List.{before_first, list_any}
 use Rattle.std.proofs.lemmas.Bool.{both_ways}
-use Rattle.boot_vars.specs.Lines.{is_end}
+use Rattle.storage_model.specs.Tests.{is_end}
 use Rattle.storage_model.specs.Variables.{is_line_of}
-use Rattle.boot_vars.proofs.LineParts.{assignment}
+use Rattle.storage_model.proofs.Lines.{assignment}
 use Rattle.boot_vars.proofs.Places.{at_begin, ended, found, next, passed_within, passes, within as within_text}
 use Rattle.boot_vars.proofs.place.place_of.Goals as goal
 
