@@ -21,8 +21,15 @@ fn put(plant: &mut SimPlant, area: Area, lba: u64, byte: u8) -> Result<(), Faile
     plant.write(area, lba, &[byte; 512])
 }
 
-// The disk's first two sectors and the flash's first, as a power cut leaves them. None where these picks may not be
-// asked.
+// The disk's first two sectors and the flash's first.
+fn three_sectors(image: &mut SimPlant) -> Result<[Option<[u8; 4]>; 3], Failed> {
+    let first = corners(image, Area::Disk, 0)?;
+    let second = corners(image, Area::Disk, 1)?;
+    let flash = corners(image, Area::Flash, 0)?;
+    Ok([first, second, flash])
+}
+
+// These as a power cut leaves them. None where these picks may not be asked.
 fn left_by(
     plant: &SimPlant,
     moment: u64,
@@ -32,10 +39,24 @@ fn left_by(
         return Ok(None);
     }
     let mut image = plant.image(moment, picks)?;
-    let first = corners(&mut image, Area::Disk, 0)?;
-    let second = corners(&mut image, Area::Disk, 1)?;
-    let flash = corners(&mut image, Area::Flash, 0)?;
-    Ok(Some([first, second, flash]))
+    Ok(Some(three_sectors(&mut image)?))
+}
+
+// The same by a snapshot.
+fn left_by_snapshot(
+    plant: &SimPlant,
+    moment: u64,
+    picks: &[(Area, u64, Pick)],
+) -> Result<Option<[Option<[u8; 4]>; 3]>, Fail> {
+    if moment > plant.calls() {
+        return Ok(None);
+    }
+    let snapshot = plant.snapshot(moment)?;
+    if !snapshot.allows(picks) {
+        return Ok(None);
+    }
+    let mut image = snapshot.image(picks)?;
+    Ok(Some(three_sectors(&mut image)?))
 }
 
 // What `left_by` gives where each of the three sectors is whole.
@@ -124,6 +145,7 @@ fn crash_leaves_each_sector_by_its_pick(rt: HostRuntime) -> Result<(), Fail> {
     ];
     for (moment, picks, want) in table {
         assert_eq!(rt; left_by(&plant, moment, picks)?, want, "at {moment}");
+        assert_eq!(rt; left_by_snapshot(&plant, moment, picks)?, want, "at {moment}");
     }
     Ok(())
 }
@@ -148,6 +170,8 @@ fn only_unsynced_sectors_are_picked(rt: HostRuntime) -> Result<(), Fail> {
             want,
             "at {moment}"
         );
+        let left = left_by_snapshot(&plant, moment, &[(area, lba, Pick::New)])?;
+        assert_eq!(rt; left.is_some(), want, "at {moment}");
     }
     Ok(())
 }

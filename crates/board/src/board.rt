@@ -193,7 +193,7 @@ impl<'a, P: Plant> Board<'a, P> {
         self.held.journal.sectors()
     }
 
-    /// The number of the disk's sectors.
+    /// The number of the disk's sectors: the same at all times, also where the plant failed.
     pub fn sectors(&self) -> u64
         ensures { result ≡ (P.view self.now.plant.now).size Disk }
     {

@@ -2,7 +2,7 @@
 
 ghost use Rattle.std.specs.Prelude.{◌≡◌, ◌≢◌, ◌-◌, ℕ, List, None, Err, IsOk, IsSome, IsTrue, OnOk, length, take};
 ghost use Rattle.bd_dev.specs.Faults.{HasCauseOr};
-ghost use Rattle.boot_vars.specs.Setting.{changed, put_refusal, set_refusal, unset_refusal, with_variable, without};
+ghost use Rattle.boot_vars.specs.Setting.{WearsFor, changed, put_refusal, set_refusal, unset_refusal, with_variable, without};
 ghost use Rattle.boot_vars.specs.Vars.{AreVars};
 ghost use Rattle.cuts.specs.declared.effect.Effect.TheVariants.{Vars as SetVars};
 ghost use Rattle.board.specs.Changes.{Does, IsAnswer, Nothing, of_var_refusal};
@@ -29,6 +29,9 @@ impl<'a, P: Plant> Board<'a, P> {
         ensures leaves { (vs : List Variable) → Spells self.old.held.vars.text vs
             → Leaves (SetVars (lines_of (with_variable vs (record { name = name.now; value = value.now })))) result
             (P.view self.old.plant.now) self.old.held (P.view self.new.plant.now) self.new.held }
+        ensures wears { (vs : List Variable) → Spells self.old.held.vars.text vs
+            → WearsFor (lines_of (with_variable vs (record { name = name.now; value = value.now })))
+            (P.view self.old.plant.now) (P.view self.new.plant.now) }
         ensures vars { (vs : List Variable) → Spells self.old.held.vars.text vs → OnOk result
             (self.new.held.vars ≡ changed self.old.held.vars (lines_of (with_variable vs (record { name = name.now; value = value.now })))) }
         ensures table { self.new.held.table ≡ self.old.held.table }
@@ -61,6 +64,8 @@ impl<'a, P: Plant> Board<'a, P> {
         ensures leaves { (vs : List Variable) → Spells self.old.held.vars.text vs → IsSome (value_among vs name.now)
             → Leaves (SetVars (lines_of (without vs name.now))) result
             (P.view self.old.plant.now) self.old.held (P.view self.new.plant.now) self.new.held }
+        ensures wears { (vs : List Variable) → Spells self.old.held.vars.text vs
+            → WearsFor (lines_of (without vs name.now)) (P.view self.old.plant.now) (P.view self.new.plant.now) }
         ensures vars { (vs : List Variable) → Spells self.old.held.vars.text vs → IsSome (value_among vs name.now) → OnOk result
             (self.new.held.vars ≡ changed self.old.held.vars (lines_of (without vs name.now))) }
         ensures table { self.new.held.table ≡ self.old.held.table }
@@ -89,6 +94,7 @@ impl<'a, P: Plant> Board<'a, P> {
         ensures effect { Does (SetVars (take length text.now)) (self.new.plant.now ≡ self.old.plant.now) result self.old.held self.new.held }
         ensures leaves { Leaves (SetVars (take length text.now)) result
             (P.view self.old.plant.now) self.old.held (P.view self.new.plant.now) self.new.held }
+        ensures wears { WearsFor (take length text.now) (P.view self.old.plant.now) (P.view self.new.plant.now) }
         ensures vars { OnOk result (self.new.held.vars ≡ changed self.old.held.vars (take length text.now)) }
         ensures table { self.new.held.table ≡ self.old.held.table }
         ensures spare { OnOk result (self.new.held.journal.spare ≡ self.old.held.journal.spare - 1) }

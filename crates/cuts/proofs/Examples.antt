@@ -1,20 +1,25 @@
--- A board from which the law holds, and a run with an effect of each kind that keeps its rules: so the law is not
--- empty.
-use Rattle.std.proofs.Common.{◌≡◌, ◌≢◌, ◌⊎◌, inl, inr, ℕ, zero, suc, ◌*◌, ◌<◌, List, [], ◌∷◌, ◌++◌, replicate, slice_index, true, refl, sym, ◌∙◌, ap, subst, arith}
+-- A board from which the law holds, and a run with an effect of each kind that keeps its rules, in which the variables
+-- come to name a NOS: so neither the law nor what it says of a NOS is empty.
+use Rattle.std.proofs.Common.{◌≡◌, ◌≢◌, ◌⊎◌, inl, inr, ℕ, zero, suc, ◌*◌, ◌<◌, ◌≤◌, List, [], ◌∷◌, ◌++◌, codes, replicate, slice_index, true, Some, refl, sym, ◌∙◌, ap, subst, arith}
 use Rattle.bd_text.specs.declared.guid.Guid.{Guid}
 use Rattle.bd_dev.specs.declared.plant.Area.{Area}
 use Rattle.bd_dev.specs.declared.plant.Area.TheVariants.{Disk, Flash}
 use Rattle.gpt_copy.specs.declared.table.Entry.{Entry}
 use Rattle.gpt_copy.specs.declared.table.Table.{Table}
-use Rattle.storage_model.specs.Entries.{HasEntry, IsSane, IsWithin, OnieEntry, onie_type}
+use Rattle.std.proofs.lemmas.Option.{same_Some}
+use Rattle.storage_model.specs.Copies.{OffCopies}
+use Rattle.storage_model.specs.Entries.{HasEntry, InEntry, IsSane, IsWithin, NosEntry, OnieEntry, onie_type}
 use Rattle.storage_model.specs.Image.{has_image, image_word, is_image_head}
-use Rattle.storage_model.specs.Variables.{Names, value_of}
+use Rattle.storage_model.specs.Named.{named_in}
+use Rattle.storage_model.specs.Variables.{IsText, Names, is_name, is_value, value_of}
+use Rattle.storage_model.proofs.Lines.{text_decides}
+use Rattle.storage_model.proofs.NamedLemmas.{is_named, named_is}
 use Rattle.bd_dev.specs.Content.{window}
 use Rattle.cuts.specs.declared.effect.Effect.{Effect}
 use Rattle.cuts.specs.declared.effect.Effect.TheVariants.{Put, Sync, Table as SetTable, Vars as SetVars}
-use Rattle.cuts.specs.States.{State, patch}
+use Rattle.cuts.specs.States.{InPut, State, after, patch}
 use Rattle.cuts.specs.Law.{IsStart}
-use Rattle.cuts.specs.Orderly.{AreLawful, AreOrderly, IsPlacedAs}
+use Rattle.cuts.specs.Orderly.{AreLawful, AreOrderly, IsNamed, IsPlacedAs}
 
 -- a GUID of sixteen equal bytes
 guid : ℕ → Guid
@@ -45,9 +50,25 @@ size : Area → ℕ
 size Disk = 200
 size Flash = 34
 
--- a NOS of a sector is put, and then it gets its entry
+-- the variables that name the NOS
+command : List ℕ
+command = codes "nos_bootcmd=boot 02020202-0202-0202-0202-020202020202" ++ 0 ∷ []
+
+-- a NOS of a sector is put, it gets its entry, and it is named; then a sector beside it is put
 run : List Effect
-run = Put 66 (replicate 512 7) ∷ Sync ∷ SetTable with_nos ∷ SetVars [] ∷ []
+run = Put 66 (replicate 512 7) ∷ Sync ∷ SetTable with_nos ∷ SetVars command ∷ Put 100 (replicate 512 8) ∷ []
+
+is_command : IsText command
+unfolding command is_name is_value
+is_command = (text_decides command).0 refl
+
+names_nos : named_in command ≡ Some (guid 2)
+unfolding command value_of guid
+names_nos = refl
+
+-- no other is named
+only_nos : (g : Guid) → Names command g → g ≡ guid 2
+only_nos g names = same_Some g (guid 2) (sym (named_is command g names) ∙ names_nos)
 
 has_image_there : has_image disk onie ≡ true
 unfolding disk onie patch is_image_head window
@@ -136,6 +157,14 @@ onie_after = record {
   only = λ j f has. elim (both j f has.has) [ inl one ↦ one.0 | inr two ↦ absurd (other_kind (ap (λ (x : Entry). x.kind) (sym two.1) ∙ has.kind)) ];
 }
 
+nos_after : NosEntry with_nos (guid 2) 1 nos
+unfolding with_nos onie nos guid
+nos_after = record {
+  has = record { is = refl; used = λ same. differ 0 9 (omega arith) (sym (ap (λ (g : Guid). slice_index g.bytes 0) same)) };
+  guid = refl;
+  other = other_kind;
+}
+
 -- the law holds from this board, nothing of which is unsynced
 starts : IsStart size board (λ q. ⊥)
 unfolding board size before
@@ -146,15 +175,27 @@ starts = record {
   off = record { onie = λ i e one q none. absurd none; named = λ i e named q none. absurd none };
 }
 
+off_the_copies : (lba b q : ℕ) → 34 ≤ lba → lba < 166 → InPut lba (replicate 512 b) q → OffCopies 200 q
+off_the_copies lba b q from until inside = inr (omega (arith, from, inside.from), omega (arith, until, inside.until))
+
 lawful : AreLawful (size Disk) board run
 unfolding size board run before with_nos
 lawful = (
-  record { whole = refl; some = omega arith; few = omega arith; off = λ q inside. inr (omega (arith, inside.from), omega (arith, inside.until)) },
-  (tt, (record { sane = sane_after; first = refl; last = refl; disk = refl }, (record { is = ([], record { lines = refl; variables = tt }); room = λ same. omega (arith, same) }, tt))),
+  record { whole = refl; some = omega arith; few = omega arith; off = λ q inside. off_the_copies 66 7 q (omega arith) (omega arith) inside },
+  (
+    tt,
+    (
+      record { sane = sane_after; first = refl; last = refl; disk = refl },
+      (
+        record { is = is_command; room = λ same. omega (arith, same) },
+        (record { whole = refl; some = omega arith; few = omega arith; off = λ q inside. off_the_copies 100 8 q (omega arith) (omega arith) inside }, tt),
+      ),
+    ),
+  ),
 )
 
 orderly : AreOrderly board (λ q. ⊥) run
-unfolding board run onie
+unfolding board run onie nos
 orderly = (
   record {
     onie = λ i e one q inside within. let last : e.last ≡ 65 = ap (λ (x : Entry). x.last) (only_onie i e one.has.has).1 in omega (arith, inside.from, within.until, last);
@@ -167,7 +208,27 @@ orderly = (
         onie = λ i e one. record { index = 0; entry = onie; one = onie_after; placed = subst (λ (x : Entry). IsPlacedAs x onie) (sym (only_onie i e one.has.has).1) (record { guid = refl; first = refl; last = refl }) };
         named = λ i e named. absurd (names_none e.guid named.names);
       },
-      (λ g names. absurd (names_none g names), tt),
+      (
+        λ g names. inr (record { index = 1; entry = nos; has = subst (λ (h : Guid). NosEntry with_nos h 1 nos) (sym (only_nos g names)) nos_after; settled = λ q none. absurd none }),
+        (
+          record {
+            onie = λ i e one q inside within. beside i e one.has.has q inside within;
+            named = λ i e named q inside within. beside i e named.has q inside within;
+          },
+          tt,
+        ),
+      ),
     ),
   ),
 )
+  where
+    beside : (i : ℕ) (e : Entry) → HasEntry with_nos i e → (q : ℕ) → InPut 100 (replicate 512 8) q → InEntry e q → ⊥
+    beside i e has q inside within = elim (both i e has) [
+      | inl one ↦ let last : e.last ≡ 65 = ap (λ (x : Entry). x.last) one.1 in omega (arith, inside.from, within.until, last)
+      | inr two ↦ let last : e.last ≡ 70 = ap (λ (x : Entry). x.last) two.1 in omega (arith, inside.from, within.until, last)
+    ]
+
+-- at its end the variables name the NOS's entry: of that the law says that each cut leaves it whole
+named_after : IsNamed (after board run).table (after board run).text 1 nos
+unfolding board run nos
+named_after = record { has = nos_after.has; names = is_named command (guid 2) names_nos }

@@ -2,6 +2,7 @@ use Rattle.std.proofs.Common.{take, inl, inr, refl}
 use Rattle.cuts.specs.declared.effect.Effect.TheVariants.{Vars as SetVars}
 use Rattle.board.proofs.Keeping.{keeps_still}
 use Rattle.board.proofs.Leaving.{is_after, may_run}
+use Rattle.boot_vars.proofs.Changing.{wears_now}
 use Rattle.board.proofs.VariableChanges.{is_lawful_text, keeps_vars}
 use Rattle.board.proofs.board.Board.put_text.Goals as goal
 
@@ -31,3 +32,12 @@ returns-in-Err-store-clause-leaves g c = may_run (SetVars (take c.args.length c.
 pub returns-clause-leaves : goal.returns-clause-leaves
 returns-clause-leaves g c = is_after (SetVars (take c.args.length c.args.text.now)) (g.P.Plant.view c.args.self.now.plant.now) (g.P.Plant.view c.store.new.plant) c.args.self.now.held _
     (returns-clause-keeps g c) (record { effects = c.in_default.ensures.noted.effects; failed = c.requires.live.live })
+
+pub returns-in-Err-clause-wears : goal.returns-in-Err-clause-wears
+returns-in-Err-clause-wears g c = wears_now (g.P.Plant.view c.args.self.now.plant.now) _
+
+pub returns-in-Err-store-clause-wears : goal.returns-in-Err-store-clause-wears
+returns-in-Err-store-clause-wears g c = c.in-Err-store.ensures.wears
+
+pub returns-clause-wears : goal.returns-clause-wears
+returns-clause-wears g c = c.in_default-store.ensures.wears

@@ -2,10 +2,11 @@ use Rattle.std.proofs.Common.{◌≡◌, List, ℕ, Option, Err, refl, ap, subst
 use Rattle.boot_vars.specs.declared.fault.VarFault.{VarFault}
 use Rattle.cuts.specs.declared.effect.Effect.TheVariants.{Vars as SetVars}
 use Rattle.board.specs.Changes.{Does, IsAnswer, of_var_refusal}
-use Rattle.boot_vars.specs.Setting.{with_variable}
+use Rattle.boot_vars.specs.Setting.{WearsFor, with_variable}
 use Rattle.storage_model.specs.Variables.{lines_of}
 use Rattle.board.specs.Held.{Leaves}
 use Rattle.board.proofs.Keeping.{keeps_now}
+use Rattle.boot_vars.proofs.Changing.{wears_now}
 use Rattle.board.proofs.VariableChanges.{refused_answer, refused_effect, refused_leaves}
 use Rattle.board.proofs.board.Board.set_var.Goals as goal
 
@@ -38,3 +39,11 @@ pub returns-clause-leaves : goal.returns-clause-leaves
 returns-clause-leaves g c = λ vs spells.
     subst (λ (t : List ℕ). Leaves (SetVars t) c.put_text.result (g.P.Plant.view c.args.self.now.plant.now) c.args.self.now.held (g.P.Plant.view c.put_text.new.self.plant.now) c.put_text.new.self.held)
     (c.in_ok-length.ensures.lines vs spells) c.put_text.ensures.leaves
+
+pub returns-in_err-length-clause-wears : goal.returns-in_err-length-clause-wears
+returns-in_err-length-clause-wears g c = λ vs spells. wears_now (g.P.Plant.view c.args.self.now.plant.now) _
+
+pub returns-clause-wears : goal.returns-clause-wears
+returns-clause-wears g c = λ vs spells.
+    subst (λ (t : List ℕ). WearsFor t (g.P.Plant.view c.args.self.now.plant.now) (g.P.Plant.view c.put_text.new.self.plant.now))
+    (c.in_ok-length.ensures.lines vs spells) c.put_text.ensures.wears

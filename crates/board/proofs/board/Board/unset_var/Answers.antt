@@ -5,6 +5,7 @@ use Rattle.boot_vars.specs.Setting.{without}
 use Rattle.storage_model.specs.Variables.{lines_of}
 use Rattle.board.specs.Changes.{IsAnswer, of_var_refusal}
 use Rattle.board.proofs.Keeping.{keeps_now}
+use Rattle.boot_vars.proofs.Changing.{wears_now}
 use Rattle.board.proofs.VariableChanges.{refused_answer, refused_effect, refused_leaves}
 use Rattle.boot_vars.proofs.Setting.{absent_refusal}
 use Rattle.board.proofs.board.Board.unset_var.Goals as goal
@@ -37,3 +38,9 @@ returns-in_err-length-clause-done g c = λ vs spells none named.
 pub returns-in_err-length-clause-leaves : goal.returns-in_err-length-clause-leaves
 returns-in_err-length-clause-leaves g c = λ vs spells some.
     refused_leaves (SetVars (lines_of (without vs c.args.name.now))) (g.P.Plant.view c.args.self.now.plant.now) (g.P.Plant.view c.args.self.now.plant.now) c.args.self.now.held c.args.self.now.held c.from_residual.result c.in_err-length.field-0.0 c.from_residual.ensures.1 (λ e. c.in_err-length.ensures.never (ap Err e))
+
+pub returns-in_err-length-clause-wears : goal.returns-in_err-length-clause-wears
+returns-in_err-length-clause-wears g c = λ vs spells. wears_now (g.P.Plant.view c.args.self.now.plant.now) _
+
+pub returns-in-None-clause-wears : goal.returns-in-None-clause-wears
+returns-in-None-clause-wears g c = λ vs spells. wears_now (g.P.Plant.view c.args.self.now.plant.now) _
