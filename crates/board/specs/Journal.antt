@@ -1,4 +1,4 @@
--- The journal of a board.
+-- A board's journal: the effects that are noted, the sectors that they put, and the memory that is set aside for more.
 use Rattle.std.specs.Prelude.{◌≡◌, ℕ, ◌+◌, ◌-◌, ◌/◌, ◌≤◌, ◌^◌, min, List, [], ◌∷◌, ◌++◌, length, slice_get, Some}
 use Rattle.cuts.specs.declared.effect.Effect.{Effect}
 use Rattle.cuts.specs.declared.effect.Effect.TheVariants.{Put, Sync, Table as SetTable, Vars as SetVars}

@@ -1,4 +1,4 @@
--- The opening of a board.
+-- What an opening hands on: a plant that is ready for a board, and what was read of it before.
 use Rattle.std.specs.Prelude.{◌≡◌, ◌-◌, Some}
 use Rattle.bd_dev.specs.declared.plant.Area.TheVariants.{Disk, Flash}
 use Rattle.bd_dev.specs.Plant.{View, IsSynced}

@@ -85,8 +85,7 @@ impl Journal {
         Ok(())
     }
 
-    /// Puts an effect behind the others, in the place that is set aside for it or at the end.
-    /// Notes an effect that puts no sectors and no text. It takes one of those for which room is set aside.
+    /// Notes an effect that puts no sectors, behind the others. It takes one of those for which room is set aside.
     pub(crate) fn note(&mut self, effect: Effect) -> Result<(), Memory>
         requires { sectors_of effect ≡ 0 }
         ensures noted { OnOk result (Notes self.old self.new effect) }

@@ -1,4 +1,4 @@
--- How the opening of the variables fails.
+-- Which fault of the pair of slots the opening of the variables answers as which of its own.
 use Rattle.slot_pair.specs.declared.fault.SlotFault.{SlotFault}
 use Rattle.slot_pair.specs.declared.fault.SlotFault.TheVariants as slot_faults
 use Rattle.boot_vars.specs.declared.fault.VarsFault.{VarsFault}

@@ -1,4 +1,4 @@
--- One of the two copies, written while the other stands.
+-- The order in which a replacement writes the table's two copies, and what one that is written reads as.
 use Rattle.std.specs.Prelude.{◌≡◌, ◌⊎◌, ℕ, Some}
 use Rattle.bd_dev.specs.Content.{Image}
 use Rattle.bd_dev.specs.declared.plant.Area.TheVariants.{Disk}

@@ -1,4 +1,4 @@
--- A GUID that nothing has yet.
+-- The GUID that a new entry gets: the disk's, with the least number that nothing has yet.
 use Rattle.std.specs.Prelude.{◌≡◌, ◌⊎◌, ℕ, ◌<◌, ◌++◌, take, Option, Some}
 use Rattle.byteorder.specs.Endian.{big_bytes}
 use Rattle.bd_text.specs.declared.guid.Guid.{Guid}

@@ -1,4 +1,4 @@
--- Which entries can stand together.
+-- A sane table entry by entry: each lies in range and stands apart from those before it.
 use Rattle.std.specs.Prelude.{◌≡◌, ◌≢◌, ℕ, List, take, slice_get, Some}
 use Rattle.gpt_copy.specs.declared.table.Entry.{Entry}
 use Rattle.gpt_copy.specs.declared.table.Table.{Table}
