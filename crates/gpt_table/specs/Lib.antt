@@ -3,3 +3,4 @@ pub mod Edits
 pub mod Runs
 pub mod NewGuid
 pub mod Copies
+pub mod Alone

@@ -12,6 +12,7 @@
 //! [`free_run`], [`largest_run`] and [`new_guid`] find room and a GUID for an entry. No call takes memory.
 #![tactic(auto)]
 
+mod alone;
 mod copies;
 mod edits;
 mod guids;
@@ -21,6 +22,7 @@ mod replacing;
 mod runs;
 mod sanity;
 
+pub use alone::onie_is_kept_alone;
 pub use copies::touches_copy;
 pub use edits::{EditFault, add, delete, keep_alone, rename, renumber, retype};
 pub use guids::new_guid;
