@@ -1,7 +1,8 @@
 -- What the lines of a script give to flows, once the files that they serve were read.
-use Rattle.std.specs.Prelude.{ℕ, zero, suc, ◌+◌, ◌*◌, ◌/◌, ◌%◌, ◌==◌, Bool, true, List, [], ◌∷◌, ◌++◌, length, take, drop, map, if◌then◌else◌, Option, Some, None}
+use Rattle.std.specs.Prelude.{ℕ, zero, suc, ◌+◌, ◌*◌, ◌/◌, ◌%◌, ◌==◌, Bool, true, List, [], ◌∷◌, ◌++◌, length, take, drop, map, if◌then◌else◌, Option, Some, None, slice_get}
 use Rattle.bd_dev.specs.Rows.{Row, TimedArrival}
-use Rattle.bd_dev.specs.declared.net.Arrival.TheVariants.{Datagram}
+use Rattle.bd_dev.specs.declared.net.Arrival.{Arrival}
+use Rattle.bd_dev.specs.declared.net.Arrival.TheVariants.{Datagram, End}
 use Rattle.net_script.specs.declared.feed.Feed.{Feed}
 use Rattle.net_script.specs.declared.feed.Feed.TheVariants.{Flow, At, Tftp}
 use Rattle.net_script.specs.declared.line.Rounds.{Rounds}
@@ -63,3 +64,14 @@ first_rounds (suc n) feeds = first_rounds n feeds ++ rows_from (suc n) None feed
 -- what comes in all rounds, 1 to 99
 unfoldable pub script_rows : List Feed → List Row
 script_rows feeds = first_rounds 99 feeds
+
+-- a part of what a line gives: its arrival, or a block of its file
+abbrev pub arrival_in : Option Feed → ℕ → Arrival
+arrival_in None k = End
+arrival_in (Some (Flow rounds label)) k = End
+arrival_in (Some (At at arrival)) k = arrival
+arrival_in (Some (Tftp rounds label every body)) k = (block every body k).arrival
+
+-- the same of a line by its number
+abbrev pub arrival_at : List Feed → ℕ → ℕ → Arrival
+arrival_at feeds number k = arrival_in (slice_get feeds number) k
