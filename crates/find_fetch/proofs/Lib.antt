@@ -2,3 +2,4 @@ mod AimLemmas
 mod Asking
 mod Clients
 mod Seeking
+mod SpotLemmas

@@ -1,11 +1,12 @@
 -- Where a request for a candidate goes, and what it asks for.
 use Rattle.std.specs.Prelude.{IsTrue, ℕ, Bool, not, ◌&&◌, ◌||◌, ◌==◌, nat_le, nat_eq, if◌then◌else◌, List, [], ◌++◌, length, drop, slice_index, codes, Option, Some, None, is_some, unwrap_or, option_and_then, Result, Ok, Err}
 use Rattle.std.specs.Char.{is_ascii}
-use Rattle.std.specs.Fmt.{decimal}
 use Rattle.std.specs.List.{list_all}
 use Rattle.std.specs.Net.Reader.{read_ipv4, whole_value}
 use Rattle.std.specs.Option.{option_eq}
 use Rattle.std.specs.Str.{bytes_eq}
+use Rattle.flow_labels.specs.Hosts.{IsHost, server_text}
+use Rattle.flow_labels.specs.Labels.{tftp_label}
 use Rattle.host_name.specs.HostName.{is_host_name, without_last_dot}
 use Rattle.url.specs.Host.{host_text}
 use Rattle.url.specs.Parser.{parse_url}
@@ -108,10 +109,14 @@ aim_of c = aimed_for c.place c.shown
 abbrev pub IsAskable : Way → Type 0
 IsAskable (ways.Tftp path) = IsTrue (is_path path)
 
+-- an address is as labels show it, and a name is one of a host
+abbrev pub IsSpot : Spot → Type 0
+IsSpot (At host) = IsHost host
+IsSpot (Called name) = IsTrue (is_host_name name)
+
 -- the label of the flow of a request to this host: what it asks for, and of whom
 abbrev pub way_label : ℕ → List ℕ → Way → List ℕ
-way_label port host (ways.Tftp path) =
-    codes "tftp " ++ host ++ codes ":" ++ decimal port ++ codes " " ++ path
+way_label port host (ways.Tftp path) = tftp_label (server_text host port) path
 
 abbrev pub label_of : Aim → List ℕ → List ℕ
 label_of aim host = way_label aim.port host aim.way

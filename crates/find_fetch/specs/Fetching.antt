@@ -1,5 +1,5 @@
 -- What a fetch gives, and what fetches make of a network and of the trace.
-use Rattle.std.specs.Prelude.{◌≡◌, ◌≤◌, ℕ, ◌+◌, ◌-◌, ◌*◌, ◌^◌, Bool, true, false, if◌then◌else◌, List, [], ◌∷◌, ◌++◌, Option, Some, None, map, option_map}
+use Rattle.std.specs.Prelude.{◌≡◌, ◌≤◌, ℕ, ◌+◌, ◌-◌, ◌*◌, ◌^◌, Bool, if◌then◌else◌, List, [], ◌∷◌, ◌++◌, Option, Some, None, map, option_map}
 use Rattle.std.specs.Option.{ForSome}
 use Rattle.bd_dev.specs.Net.{OpenFlow}
 use Rattle.bd_dev.specs.Rows.{Row, TimedArrival, arrivals}
@@ -8,6 +8,7 @@ use Rattle.bd_dev.specs.Volumes.{Volume, file_of}
 use Rattle.flow.specs.Own.{TimedLetter}
 use Rattle.flow.specs.Sends.{sent_of}
 use Rattle.trace_text.specs.TraceText.{trace_text}
+use Rattle.url_waterfall.specs.Candidates.{is_file}
 use Rattle.url_waterfall.specs.declared.candidate.Candidate.{Candidate}
 use Rattle.url_waterfall.specs.declared.candidate.Place.{Place}
 use Rattle.url_waterfall.specs.declared.candidate.Place.TheVariants as places
@@ -27,11 +28,7 @@ use Rattle.find_fetch.specs.Local.{local_of}
 
 -- the candidate is a file of a local medium
 abbrev pub is_local : Candidate → Bool
-is_local c = is_local_place c.place
-  where
-    is_local_place : Place → Bool
-    is_local_place (places.Local volume name) = true
-    is_local_place _ = false
+is_local c = is_file c
 
 -- the file at a place
 abbrev pub local_at : List Volume → Place → Fetched

@@ -3,7 +3,7 @@
 ghost use Rattle.std.specs.Prelude.{◌≡◌, if◌then◌else◌, IfOk};
 ghost use Rattle.std.specs.Option.{option_and_then, option_copied};
 ghost use Rattle.find_fetch.specs.declared.request.Aim.{Aim};
-ghost use Rattle.find_fetch.specs.Aim.{IsAskable, aim_of, aimed_by, asked_by, at_spot, is_unfit, spot_of, url_of};
+ghost use Rattle.find_fetch.specs.Aim.{IsAskable, IsSpot, aim_of, aimed_by, asked_by, at_spot, is_unfit, spot_of, url_of};
 
 use crate::fetched::Miss;
 use crate::request::{Aim, Aimed, Way};
@@ -47,7 +47,8 @@ fn at_url(alloc: Global, url: &Url, path: Bytes) -> Result<Aimed, Memory>
 
 /// What is to be done for a text, with what is asked for where the text does not say it.
 fn at_text(alloc: Global, text: &[u8], own: Option<&[u8]>) -> Result<Aimed, Memory>
-    ensures { IfOk result (λ aimed. aimed ≡ aimed_by (url_of text.now) (asked_by (option_copied own.entry))) }
+    ensures aimed { IfOk result (λ aimed. aimed ≡ aimed_by (url_of text.now) (asked_by (option_copied own.entry))) }
+    ensures spot { IfOk result (λ aimed. (request : Aim) → aimed ≡ Aimed.Aim request → IsSpot request.spot) }
 {
     let Some(url) = read_url(alloc, text)? else {
         return Ok(Aimed::Refused(Miss::BadUrl));
@@ -77,6 +78,7 @@ fn at_text(alloc: Global, text: &[u8], own: Option<&[u8]>) -> Result<Aimed, Memo
 pub fn aim(alloc: Global, candidate: &Candidate) -> Result<Aimed, Memory>
     ensures aimed { IfOk result (λ aimed. aimed ≡ aim_of candidate.now) }
     ensures askable { IfOk result (λ aimed. (request : Aim) → aimed ≡ Aimed.Aim request → IsAskable request.way) }
+    ensures spot { IfOk result (λ aimed. (request : Aim) → aimed ≡ Aimed.Aim request → IsSpot request.spot) }
 {
     let shown = candidate.shown.as_slice();
     match &candidate.place {

@@ -5,7 +5,7 @@ ghost use Rattle.find_fetch.specs.Aim.{label_of};
 
 use crate::request::{Aim, Way};
 use bd_dev::{Bytes, Memory};
-use itoa::Buffer;
+use flow_labels::{server_text, tftp_label};
 use std::alloc::Global;
 
 /// The label of the flow of a request to the host, which is an address as labels show it: `tftp HOST:PORT PATH`. Or
@@ -14,12 +14,6 @@ pub fn body_label(alloc: Global, aim: &Aim, host: &[u8]) -> Result<Bytes, Memory
     ensures { IfOk result (λ label. label ≡ label_of aim.now host.now) }
 {
     let Way::Tftp { path } = &aim.way;
-    let mut digits = Buffer::new();
-    let mut label = Bytes::from_slice(alloc, b"tftp ")?;
-    label.push_slice(host)?;
-    label.push_slice(b":")?;
-    label.push_slice(digits.format(aim.port).as_bytes())?;
-    label.push_slice(b" ")?;
-    label.push_slice(path.as_slice())?;
-    Ok(label)
+    let server = server_text(alloc, host, aim.port)?;
+    tftp_label(alloc, server.as_slice(), path.as_slice())
 }

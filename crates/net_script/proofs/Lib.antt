@@ -5,10 +5,9 @@ mod Parting
 mod Splitting
 mod Stars
 mod Yields
-mod Firsts
 mod Sorting
 mod Blocks
 mod Mine
 mod Serves
-mod Flows
 mod Keeping
+mod Gathering

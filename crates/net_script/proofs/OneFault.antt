@@ -1,7 +1,8 @@
 -- A line has one fault at most, and none where it says something.
 use Rattle.std.proofs.Common.{◌≡◌, inl, inr, ℕ, ◌≤◌, List, length, Option, Some, None, Bool, IsTrue, sym, ◌∙◌, subst, arith}
 use Rattle.net_script.specs.Faults.{Counted, IsArrivalFault, IsAtFault, IsFormFault, IsLineFault, IsWordsFault}
-use Rattle.net_script.specs.Hosts.{IsServerFault, is_iface_name}
+use Rattle.flow_labels.specs.Hosts.{is_iface_name}
+use Rattle.net_script.specs.Hosts.{IsServerFault}
 use Rattle.net_script.specs.Keywords.{form_of, keyword_of, words_for}
 use Rattle.net_script.specs.Lines.{BeginsAt, IsNewIface, Says, SpellsArrival, SpellsAt}
 use Rattle.net_script.specs.Tests.{Unless}

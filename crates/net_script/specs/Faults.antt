@@ -1,7 +1,8 @@
 -- What is wrong with a line: the first test that fails.
 use Rattle.std.specs.Prelude.{◌≡◌, ◌≤◌, Bool, IsTrue, ℕ, List, length, Option, Some, None}
 use Rattle.bd_text.specs.V6.{SpellsV6}
-use Rattle.net_script.specs.Hosts.{IsServer, IsServerFault, is_iface_name}
+use Rattle.flow_labels.specs.Hosts.{is_iface_name}
+use Rattle.net_script.specs.Hosts.{IsServer, IsServerFault}
 use Rattle.net_script.specs.Keywords.{form_of, keyword_of, words_for}
 use Rattle.net_script.specs.Lines.{IsNewIface}
 use Rattle.net_script.specs.Numbers.{AreRounds, IsHex, IsNumber, latest}

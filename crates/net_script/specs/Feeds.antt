@@ -1,9 +1,12 @@
 -- What the lines of a script give to flows, once the files that they serve were read.
-use Rattle.std.specs.Prelude.{ℕ, zero, suc, ◌+◌, ◌*◌, ◌/◌, ◌%◌, ◌==◌, Bool, true, List, [], ◌∷◌, ◌++◌, length, take, drop, map, if◌then◌else◌, Option, Some, None}
+use Rattle.std.specs.Prelude.{ℕ, zero, suc, ◌+◌, ◌*◌, ◌/◌, ◌%◌, ◌==◌, Bool, true, List, [], ◌∷◌, ◌++◌, length, take, drop, map, if◌then◌else◌, Option, Some, None, slice_get}
 use Rattle.bd_dev.specs.Rows.{Row, TimedArrival}
-use Rattle.bd_dev.specs.declared.net.Arrival.TheVariants.{Datagram}
+use Rattle.bd_dev.specs.declared.net.Arrival.{Arrival}
+use Rattle.bd_dev.specs.declared.net.Arrival.TheVariants.{Datagram, End}
 use Rattle.net_script.specs.declared.feed.Feed.{Feed}
-use Rattle.net_script.specs.declared.feed.Feed.TheVariants.{Flow, At, Tftp}
+use Rattle.net_script.specs.declared.feed.Feed.TheVariants.{Flow, At, Serves}
+use Rattle.net_script.specs.declared.feed.What.{What}
+use Rattle.net_script.specs.declared.feed.What.TheVariants.{Blocks}
 use Rattle.net_script.specs.declared.line.Rounds.{Rounds}
 use Rattle.net_script.specs.declared.line.Rounds.TheVariants.{All, One}
 
@@ -32,6 +35,14 @@ first_blocks every body (suc n) = first_blocks every body n ++ block every body 
 abbrev pub blocks : ℕ → List ℕ → List TimedArrival
 blocks every body = first_blocks every body (length body / 512 + 1)
 
+-- what a line serves to each flow of its label
+abbrev pub gives : What → List TimedArrival
+gives (Blocks every body) = blocks every body
+
+-- part k of it
+abbrev pub part_of : What → ℕ → Arrival
+part_of (Blocks every body) k = (block every body k).arrival
+
 -- the label of a line that is for this round, or none
 abbrev pub label_in : ℕ → Rounds → List ℕ → Option (List ℕ)
 label_in round rounds label = if is_in round rounds then Some label else None
@@ -52,8 +63,8 @@ rows_from round to [] = []
 rows_from round to (Flow rounds label ∷ feeds) = rows_from round (label_in round rounds label) feeds
 rows_from round to (At at arrival ∷ feeds) =
     rows_to round to (record { at = at; arrival = arrival } ∷ []) ++ rows_from round to feeds
-rows_from round to (Tftp rounds label every body ∷ feeds) =
-    rows_to round (label_in round rounds label) (blocks every body) ++ rows_from round to feeds
+rows_from round to (Serves rounds label what ∷ feeds) =
+    rows_to round (label_in round rounds label) (gives what) ++ rows_from round to feeds
 
 -- what comes in the first n rounds
 abbrev pub first_rounds : ℕ → List Feed → List Row
@@ -63,3 +74,14 @@ first_rounds (suc n) feeds = first_rounds n feeds ++ rows_from (suc n) None feed
 -- what comes in all rounds, 1 to 99
 unfoldable pub script_rows : List Feed → List Row
 script_rows feeds = first_rounds 99 feeds
+
+-- a part of what a line gives: its arrival, or a part of what it serves
+abbrev pub arrival_in : Option Feed → ℕ → Arrival
+arrival_in None k = End
+arrival_in (Some (Flow rounds label)) k = End
+arrival_in (Some (At at arrival)) k = arrival
+arrival_in (Some (Serves rounds label what)) k = part_of what k
+
+-- the same of a line by its number
+abbrev pub arrival_at : List Feed → ℕ → ℕ → Arrival
+arrival_at feeds number k = arrival_in (slice_get feeds number) k

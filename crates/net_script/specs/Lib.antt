@@ -8,5 +8,4 @@ pub mod Faults
 pub mod Script
 pub mod Serving
 pub mod Feeds
-pub mod Playing
 pub mod Collecting

@@ -1,10 +1,12 @@
 -- What a line says, and after which lines.
-use Rattle.std.specs.Prelude.{◌≡◌, ◌<◌, ◌≤◌, Bool, true, false, IsTrue, ℕ, List, [], ◌∷◌, ◌++◌, length, codes, Contains, Some}
+use Rattle.std.specs.Prelude.{◌≡◌, ◌<◌, ◌≤◌, Bool, true, false, IsTrue, ℕ, List, [], ◌∷◌, length, Contains, Some}
 use Rattle.std.specs.List.{flat_map, list_any}
 use Rattle.bd_dev.specs.declared.net.Arrival.{Arrival}
 use Rattle.bd_dev.specs.declared.net.Arrival.TheVariants.{Datagram, Echo, Stream, End, Reset}
 use Rattle.bd_text.specs.V6.{SpellsV6}
-use Rattle.net_script.specs.Hosts.{ShowsServer, is_iface_name}
+use Rattle.flow_labels.specs.Hosts.{is_iface_name}
+use Rattle.flow_labels.specs.Labels.{tftp_label}
+use Rattle.net_script.specs.Hosts.{ShowsServer}
 use Rattle.net_script.specs.Keywords.{form_of, keyword_of, words_for}
 use Rattle.net_script.specs.Numbers.{SpellsHex, SpellsNumber, SpellsRounds, latest}
 use Rattle.net_script.specs.Words.{label_of, word, words_of}
@@ -54,10 +56,6 @@ SpellsArrival words Reset = BeginsAt forms.Reset words
 pub record SpellsAt (words : List (List ℕ)) (at : ℕ) (arrival : Arrival) : Type 0 where
   pub time : SpellsNumber 0 latest at (word words 1)
   pub comes : SpellsArrival words arrival
-
--- the label of flows that fetch a path from a server
-abbrev pub tftp_label : List ℕ → List ℕ → List ℕ
-tftp_label server path = codes "tftp " ++ server ++ codes " " ++ path
 
 -- `tftp R SERVER:PORT PATH FILE MS`
 pub record SpellsTftp

@@ -12,6 +12,7 @@ use Rattle.net_script.specs.declared.fault.ScriptFault.{ScriptFault}
 use Rattle.net_script.specs.declared.fault.ScriptFault.TheVariants.{Media, Memory}
 use Rattle.net_script.specs.declared.feed.Feed.{Feed}
 use Rattle.net_script.specs.declared.feed.Feed.TheVariants as feeds
+use Rattle.net_script.specs.declared.feed.What.TheVariants.{Blocks}
 use Rattle.net_script.specs.declared.line.Line.{Line}
 use Rattle.net_script.specs.declared.line.Line.TheVariants.{Iface, Flow, At, Tftp}
 use Rattle.net_script.specs.declared.line.Numbered.{Numbered}
@@ -36,7 +37,7 @@ feeds_of volumes (Iface name) = []
 feeds_of volumes (Flow rounds label) = feeds.Flow rounds label ∷ []
 feeds_of volumes (At at arrival) = feeds.At at arrival ∷ []
 feeds_of volumes (Tftp rounds label file every) =
-    feeds.Tftp rounds label every (bytes_of volumes net_volume file) ∷ []
+    feeds.Serves rounds label (Blocks every (bytes_of volumes net_volume file)) ∷ []
 
 -- what lines give to flows, in order
 abbrev pub served : List Volume → List Numbered → List Feed

@@ -51,6 +51,13 @@ impl Body {
     }
 }
 
+/// What a line serves to each flow of its label.
+#[derive(Drop)]
+pub(crate) enum What {
+    /// The blocks of a file, one each so many milliseconds.
+    Blocks { every: u32, body: Body },
+}
+
 /// What a line gives to flows.
 #[derive(Drop)]
 pub(crate) enum Feed {
@@ -64,11 +71,10 @@ pub(crate) enum Feed {
         at: u32,
         arrival: Arrival,
     },
-    /// The blocks of a file, one each so many milliseconds.
-    Tftp {
+    /// What is served to the flows of this label.
+    Serves {
         rounds: Rounds,
         label: Bytes,
-        every: u32,
-        body: Body,
+        what: What,
     },
 }

@@ -1,9 +1,10 @@
 //! Servers in a line, as labels show them.
 
 ghost use Rattle.std.specs.Prelude.{◌≡◌, ◌⊎◌, ◌≤◌, ◌++◌, ◌∷◌, [], ℕ, List, length, Ok, Err, IfOk, IfSome, IfNone, IsTrue, ◌↔◌};
-ghost use Rattle.std.specs.List.{list_all, position_or_len};
+ghost use Rattle.std.specs.List.{position_or_len};
 ghost use Rattle.std.specs.Option.{IsSomeAnd};
-ghost use Rattle.net_script.specs.Hosts.{IsParted, IsServerFault, IsZone, ShowsAddress, ShowsHost, ShowsServer, SpellsZoned, is_iface_byte, is_iface_name, is_percent};
+ghost use Rattle.flow_labels.specs.Hosts.{IsZone, ShowsAddress};
+ghost use Rattle.net_script.specs.Hosts.{IsParted, IsServerFault, ShowsHost, ShowsServer, SpellsZoned, is_percent};
 ghost use Rattle.net_script.specs.declared.fault.LineFault.TheVariants.{Bad, Memory as LineMemory};
 ghost use Rattle.net_script.specs.declared.fault.ScriptKind.{ScriptKind};
 
@@ -11,30 +12,9 @@ use crate::fault::{LineFault, ScriptKind};
 use crate::numbers::port_in;
 use bd_dev::{Bytes, Memory};
 use bd_text::{V4, V6};
+use flow_labels::{is_iface_name, server_text};
 use memchr::memrchr;
 use std::alloc::Global;
-
-/// Whether the byte is a small letter or a digit.
-fn is_iface_byte(byte: u8) -> bool
-    ensures { result ≡ is_iface_byte byte }
-{
-    byte.is_ascii_lowercase() || byte.is_ascii_digit()
-}
-
-/// Whether each byte is one of them.
-fn are_iface_bytes(name: &[u8]) -> bool
-    ensures { result ≡ list_all is_iface_byte name.now }
-{
-    name.iter().all(|byte| is_iface_byte(*byte))
-}
-
-/// Whether these are 1 to 15 small letters and digits.
-#[tactic(auto, unfolding(crate::specs::Hosts::is_iface_name))]
-pub(crate) fn is_iface_name(name: &[u8]) -> bool
-    ensures { result ≡ is_iface_name name.now }
-{
-    1 <= name.len() && name.len() <= 15 && are_iface_bytes(name)
-}
 
 /// What stands before the last colon, and what after it.
 fn parted(word: &[u8]) -> Option<(&[u8], &[u8])>
@@ -134,9 +114,7 @@ pub(crate) fn shown_server(alloc: Global, word: &[u8]) -> Result<Bytes, LineFaul
     let Some((host, port)) = parted(word) else {
         return Err(LineFault::Bad(ScriptKind::Address));
     };
-    let mut shown = shown_host(alloc, host)?;
-    port_in(port)?;
-    shown.push_slice(b":")?;
-    shown.push_slice(port)?;
-    Ok(shown)
+    let shown = shown_host(alloc, host)?;
+    let number = port_in(port)?;
+    Ok(server_text(alloc, shown.as_slice(), number)?)
 }

@@ -5,7 +5,6 @@
 //! [`ScriptNet`] is the network that plays it.
 #![tactic(auto)]
 
-mod arrivals;
 mod fault;
 mod feed;
 mod hosts;
@@ -13,8 +12,8 @@ mod keywords;
 mod line;
 mod line_reader;
 mod numbers;
-mod playing;
 mod script;
+mod script_feeds;
 mod script_net;
 mod serving;
 mod words;

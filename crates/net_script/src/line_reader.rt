@@ -5,7 +5,7 @@ ghost use Rattle.bd_dev.specs.declared.net.Arrival.{Arrival};
 ghost use Rattle.bd_text.specs.V6.{SpellsV6};
 ghost use Rattle.net_script.specs.Faults.{IsArrivalFault, IsAtFault, IsFlowFault, IsIfaceFault, IsLineFault, IsNextIface, IsTftpFault};
 ghost use Rattle.net_script.specs.Keywords.{form_of, keyword_of, words_for};
-ghost use Rattle.net_script.specs.Lines.{IsNewIface, Says, SpellsArrival, SpellsAt, SpellsFlow, SpellsIface, SpellsTftp, tftp_label};
+ghost use Rattle.net_script.specs.Lines.{IsNewIface, Says, SpellsArrival, SpellsAt, SpellsFlow, SpellsIface, SpellsTftp};
 ghost use Rattle.net_script.specs.Words.{word, words_of};
 ghost use Rattle.net_script.specs.declared.fault.LineFault.TheVariants.{Bad};
 ghost use Rattle.net_script.specs.declared.fault.ScriptKind.{ScriptKind};
@@ -13,13 +13,14 @@ ghost use Rattle.net_script.specs.declared.line.Line.{Line};
 ghost use Rattle.net_script.specs.declared.line.Rounds.{Rounds};
 
 use crate::fault::{LineFault, ScriptKind};
-use crate::hosts::{is_iface_name, shown_server};
+use crate::hosts::shown_server;
 use crate::keywords::{Form, Keyword};
 use crate::line::Line;
 use crate::numbers::{bytes_in, port_in, rounds_in, time_in};
 use crate::words::{Words, label_in};
-use bd_dev::{Arrival, Bytes, Memory};
+use bd_dev::{Arrival, Bytes};
 use bd_text::V6;
+use flow_labels::{is_iface_name, tftp_label};
 use std::alloc::Global;
 
 /// How many interfaces a script has at most.
@@ -130,17 +131,6 @@ fn read_at(alloc: Global, has_flow: bool, words: &Words<'_>) -> Result<Line, Lin
     Ok(Line::At { at, arrival })
 }
 
-/// The label of the flows that fetch a path from a server, or `Memory`.
-fn tftp_label(alloc: Global, server: &Bytes, path: &[u8]) -> Result<Bytes, Memory>
-    ensures { IfOk result (λ label. label ≡ tftp_label server.now path.now) }
-{
-    let mut label = Bytes::from_slice(alloc, b"tftp ")?;
-    label.push_slice(server.as_slice())?;
-    label.push_slice(b" ")?;
-    label.push_slice(path)?;
-    Ok(label)
-}
-
 fn read_tftp(alloc: Global, words: &Words<'_>) -> Result<Line, LineFault>
     requires { keyword_of (word words.now 0) ≡ Some Keyword.Tftp }
     ensures found { IfOk result (λ said. (rounds : Rounds) × (label file : List ℕ) × (every : ℕ)
@@ -154,7 +144,7 @@ fn read_tftp(alloc: Global, words: &Words<'_>) -> Result<Line, LineFault>
     let rounds = rounds_in(words.get(1))?;
     let server = shown_server(alloc, words.get(2))?;
     let every = time_in(words.get(5))?;
-    let label = tftp_label(alloc, &server, words.get(3))?;
+    let label = tftp_label(alloc, server.as_slice(), words.get(3))?;
     let file = Bytes::from_slice(alloc, words.get(4))?;
     Ok(Line::Tftp {
         rounds,

@@ -2,22 +2,21 @@
 
 ghost use Rattle.std.specs.Prelude.{◌≡◌, ◌+◌, ◌-◌, ◌^◌, ◌<◌, ◌≤◌, ◌++◌, ◌∷◌, [], ℕ, Some, None, Err, length, IfOk, OnOk, OnErr};
 ghost use Rattle.std.specs.Option.{ForSome};
+ghost use Rattle.arrival_player.specs.Played.{flow_at};
 ghost use Rattle.bd_dev.specs.Faults.{HasCauseOr};
 ghost use Rattle.bd_dev.specs.Net.{Answers, Closes, IsEarliest, Opens, Posts};
 ghost use Rattle.net_script.specs.Feeds.{script_rows};
-ghost use Rattle.net_script.specs.Playing.{flow_at};
 ghost use Rattle.net_script.specs.Serving.{first_lacking, served};
 ghost use Rattle.net_script.specs.declared.fault.ScriptFault.TheVariants.{Bad, Media as MediaFault};
 ghost use Rattle.net_script.specs.declared.fault.ScriptKind.{ScriptKind};
 ghost use Rattle.net_script.specs.declared.fault.ScriptKind.TheVariants.{NoBody};
 
-use crate::arrivals::arrivals_of;
 use crate::fault::ScriptFault;
-use crate::feed::Feed;
-use crate::playing::{Flow, advance, close_at, earliest, first_open};
 use crate::script::Script;
+use crate::script_feeds::ScriptFeeds;
 use crate::serving::serve;
-use bd_dev::{Bytes, DevFault, Media, Memory, Net, Next};
+use arrival_player::Player;
+use bd_dev::{DevFault, Media, Net, Next};
 use bd_text::Mac;
 use std::alloc::Global;
 use std::marker::Model;
@@ -25,28 +24,15 @@ use std::marker::Model;
 /// A network that plays a script. It never fails, and what is sent changes nothing of what comes.
 #[derive(Drop)]
 pub struct ScriptNet {
-    feeds: Vec<Feed>,
-    time: u64,
-    // By their numbers; a closed one is None.
-    flows: Vec<Option<Flow>>,
-    // All flows before this number are closed.
-    shut: usize,
-    alloc: Global,
+    player: Player<ScriptFeeds>,
 }
 
 impl Model for ScriptNet {
-    ghost use Rattle.net_script.specs.Feeds.{script_rows};
-    ghost use Rattle.net_script.specs.Playing.{IsSound, ScriptedNet, flows_of};
+    ghost use Rattle.arrival_player.specs.Played.{Played};
 
-    ghost Value = { ScriptedNet };
+    ghost Value = { Played };
 
-    ghost view = { λ n. record {
-      rows = script_rows n.feeds.items;
-      time = n.time;
-      flows = flows_of n.flows.items;
-    } };
-
-    ghost invariant = { λ n. IsSound (script_rows n.feeds.items) n.flows.items n.time n.shut };
+    ghost view = { λ n. n.player };
 }
 
 impl ScriptNet {
@@ -75,17 +61,13 @@ impl ScriptNet {
         let _mac = mac;
         let feeds = serve(alloc, media, script.lines)?;
         Ok(ScriptNet {
-            feeds,
-            time: 0,
-            flows: Vec::new(alloc),
-            shut: 0,
-            alloc,
+            player: Player::new(alloc, ScriptFeeds::new(feeds), false),
         })
     }
 }
 
 impl Net for ScriptNet {
-    ghost use Rattle.net_script.specs.Playing.{flow_past};
+    ghost use Rattle.arrival_player.specs.Played.{flow_past};
 
     ghost rows = { λ n. Some n.rows };
 
@@ -100,19 +82,11 @@ impl Net for ScriptNet {
     ghost faults = { λ _. 0 };
 
     fn now(&self) -> u64 {
-        self.time
+        self.player.now()
     }
 
     fn open(&mut self, round: u32, label: &[u8]) -> Result<u32, DevFault> {
-        let number = self.flows.len() as u32;
-        let flow = Flow {
-            since: self.time,
-            round,
-            label: Bytes::from_slice(self.alloc, label)?,
-            given: 0,
-            arrivals: arrivals_of(self.alloc, &self.feeds, round, label)?,
-        };
-        push(&mut self.flows, Some(flow))?;
+        let number = self.player.open(round, label)?;
         Ok(number)
     }
 
@@ -122,35 +96,13 @@ impl Net for ScriptNet {
 
     /// Of arrivals of one time, that of the flow opened first.
     fn next(&mut self, until: u64) -> Result<Next, DevFault> {
-        match earliest(&self.flows, self.shut, until) {
-            None => {
-                self.time = until;
-                Ok(Next::Quiet)
-            }
-            Some((number, time)) => {
-                let arrival = advance(self.alloc, &mut self.flows, number)?;
-                self.time = time;
-                Ok(Next::Came {
-                    flow: number as u32,
-                    arrival,
-                })
-            }
-        }
+        let next = self.player.next(until)?;
+        Ok(next)
     }
 
     fn close(&mut self, flow: u32) {
-        close_at(&mut self.flows, flow as usize);
-        self.shut = first_open(&self.flows, self.shut);
+        self.player.close(flow);
     }
 
     ghost not_yet = { λ net n past. flow_past net.flows n past };
-}
-
-/// Puts a flow at the end, or answers `Memory` and changes nothing.
-fn push(flows: &mut Vec<Option<Flow>>, flow: Option<Flow>) -> Result<(), Memory>
-    ensures pushed { OnOk result (flows.new.items ≡ flows.old.items ++ flow ∷ []) }
-    ensures unchanged { OnErr result (flows.new.items ≡ flows.old.items) }
-{
-    flows.push(flow)?;
-    Ok(())
 }

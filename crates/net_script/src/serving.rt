@@ -10,7 +10,7 @@ ghost use Rattle.net_script.specs.declared.fault.ScriptKind.{ScriptKind};
 ghost use Rattle.net_script.specs.declared.fault.ScriptKind.TheVariants.{NoBody};
 
 use crate::fault::{ScriptFault, ScriptKind};
-use crate::feed::{Body, Feed};
+use crate::feed::{Body, Feed, What};
 use crate::line::{Line, Numbered};
 use bd_dev::{Media, Memory, read_file};
 use std::alloc::Global;
@@ -101,11 +101,10 @@ fn served<M: Media>(
                     kind: ScriptKind::NoBody,
                 });
             };
-            Ok(Some(Feed::Tftp {
+            Ok(Some(Feed::Serves {
                 rounds,
                 label,
-                every,
-                body,
+                what: What::Blocks { every, body },
             }))
         }
     }

@@ -1,8 +1,9 @@
 //! The candidates on local media.
 
-ghost use Rattle.std.specs.Prelude.{◌≡◌, map, fold, IfOk, OnOk};
+ghost use Rattle.std.specs.Prelude.{◌≡◌, ◌≤◌, ◌*◌, true, length, map, fold, IfOk, OnOk};
+ghost use Rattle.std.specs.List.{list_all};
 ghost use Rattle.tlvinfo.specs.IdentityView.{board_of};
-ghost use Rattle.url_waterfall.specs.Candidates.{local_file, files_named, local_files};
+ghost use Rattle.url_waterfall.specs.Candidates.{is_file, local_file, files_named, local_files};
 ghost use Rattle.url_waterfall.specs.Firsts.{firsts, with_new, IsIndex, KeepsFirsts};
 
 use crate::candidate::Candidate;
@@ -48,7 +49,8 @@ fn list_files(alloc: Global, names: &[Bytes], volumes: &[Bytes]) -> Result<Vec<C
 }
 
 /// The candidates on local media, in the order in which they are tried: for each volume in the order given, but for
-/// `net`, each of the [`names`] without silicon. Each text is shown once, where it comes first.
+/// `net`, each of the [`names`] without silicon. Each text is shown once, where it comes first. So none is fetched over
+/// the network, and there are at most ten for each volume.
 ///
 /// Answers `Memory` where there is no memory for them.
 ///
@@ -64,6 +66,8 @@ pub fn candidates(
     // No text twice, the first candidate of each text, and the order kept.
     ensures law { IfOk result (λ list.
         KeepsFirsts (local_files (board_of identity.now) mode volumes.now) list.items) }
+    ensures nearby { IfOk result (λ list. list_all is_file list.items ≡ true) }
+    ensures few { IfOk result (λ list. length list.items ≤ 10 * length volumes.now) }
 {
     let names = names(alloc, identity, None, mode)?;
     let list = list_files(alloc, names.as_slice(), volumes.as_slice())?;

@@ -1,6 +1,7 @@
 use Rattle.std.proofs.Common.{ℕ, List, inl, inr, Ok, sym, ◌∙◌, ap, subst}
 use Rattle.net_script.proofs.Parting.{not_some}
-use Rattle.net_script.specs.Hosts.{ShowsAddress, SpellsZoned}
+use Rattle.flow_labels.specs.Hosts.{ShowsAddress}
+use Rattle.net_script.specs.Hosts.{SpellsZoned}
 use Rattle.net_script.proofs.hosts.shown_host.Goals as goal
 
 pub returns-in_default-zoned-clause-only : goal.returns-in_default-zoned-clause-only

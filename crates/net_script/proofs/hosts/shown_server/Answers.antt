@@ -1,5 +1,7 @@
-use Rattle.std.proofs.Common.{◌≡◌, ◌∷◌, ◌++◌, ℕ, List, inl, inr, Err, sym, ◌∙◌, ap, subst, append_assoc, rules}
+use Rattle.std.proofs.Common.{◌≡◌, ℕ, List, inl, inr, Err, sym, ◌∙◌, ap, subst, rules}
+use Rattle.flow_labels.specs.Hosts.{server_text}
 use Rattle.net_script.specs.Hosts.{HasHost, ShowsHost}
+use Rattle.net_script.specs.Numbers.{SpellsNumber}
 use Rattle.net_script.specs.declared.fault.LineFault.TheVariants.{Bad}
 use Rattle.net_script.specs.declared.fault.ScriptKind.TheVariants.{Address}
 use Rattle.net_script.proofs.Parting.{one_host, one_port}
@@ -27,5 +29,5 @@ returns-clause-only c = λ shown shows.
     let port = one_port word shows.host shows.port c.in-Some.host.now c.in-Some.port.now shows.parted c.in-Some.ensures.parted in
     let known = c.in_ok-shown.ensures.only shows.shown_host (subst (λ (l : List ℕ). ShowsHost l shows.shown_host) host shows.shows) in
     let same : c.in_ok-shown.shown ≡ shows.shown_host = elim known [ inl e ↦ cc e | inr e ↦ absurd (cc e) ] in
-    let pushed : c.push_slice-2.new.self ≡ c.in_ok-shown.shown ++ 0x3A ∷ c.in-Some.port.now = search (rules, append_assoc) in
-    pushed ∙ (λ i. same i ++ 0x3A ∷ sym port i) ∙ sym shows.shown_is
+    let number : c.in_ok-number.number ≡ shows.number = cc (c.in_ok-number.ensures.only shows.number (subst (λ (l : List ℕ). SpellsNumber 1 65535 shows.number l) port shows.spelled)) in
+    c.in_ok-server_text.ensures ∙ (ap (λ (l : List ℕ). server_text l c.in_ok-number.number) (c.as_slice.ensures ∙ same) ∙ (ap (server_text shows.shown_host) number ∙ sym shows.shown_is))

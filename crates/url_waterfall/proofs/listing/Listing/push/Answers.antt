@@ -1,4 +1,4 @@
-use Rattle.std.proofs.Common.{List, ◌++◌, ◌∷◌, [], ap, sym, subst, ◌∙◌}
+use Rattle.std.proofs.Common.{List, sym, subst, ◌∙◌}
 use Rattle.url_waterfall.specs.declared.candidate.Candidate.{Candidate}
 use Rattle.url_waterfall.specs.Firsts.{IsIndex}
 use Rattle.url_waterfall.proofs.Index.{index_more}
