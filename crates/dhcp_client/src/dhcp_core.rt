@@ -82,7 +82,7 @@ impl DhcpCore {
     ghost use Rattle.std.specs.Prelude.{List};
     ghost use Rattle.bd_dev.specs.Rows.{TimedArrival};
     ghost use Rattle.waits.specs.Waits.{ComesTo, arrived_by, found_of, letters_of, new_waiter, outcome};
-    ghost use Rattle.waits.specs.Places.{Gives};
+    ghost use Rattle.dhcp_client.specs.Places.{Leases};
     ghost use Rattle.dhcp_client.specs.Leasing.{asked_letter, dhcp, dhcp_acts, hears_message, none_offered};
 
     /// A client for the interface with this Ethernet address, on a board of this platform, in this round. Or `Memory`.
@@ -95,7 +95,7 @@ impl DhcpCore {
         ensures comes_to { IfOk result (λ client. (arrivals : List TimedArrival)
             → ComesTo dhcp_acts found_of client arrivals (outcome dhcp (none_offered mac platform.now round) arrivals)) }
         ensures places { IfOk result (λ client. (arrivals : List TimedArrival)
-            → Gives dhcp 131072 (none_offered mac platform.now round) 0 arrivals
+            → Leases (none_offered mac platform.now round) arrivals
             (outcome dhcp (none_offered mac platform.now round) arrivals).found) }
     {
         Ok(DhcpCore {

@@ -1,4 +1,4 @@
-//! Against RFC 2131 and the times that the client has: worked exchanges, and one that a server's packets were recorded of.
+//! Against RFC 2131 and the times that the client has: worked exchanges, and two with real servers.
 
 ghost use Rattle.std.specs.Prelude.{IfOk};
 ghost use Rattle.waits.specs.Laws.{IsNewWaiter};
@@ -19,6 +19,29 @@ const OWN_LAST: [u8; 2] = [0x54, 0x55];
 /// The end of a message: the vendor class of a board, what is asked for, and the end.
 const OWN: &[u8] = b"\x3c\x20onie_vendor:x86_64-kvm_x86_64-r0\x37\x09\x01\x03\x06BCHr}\x96\xff";
 
+/// A packet: `op`, the client's number and Ethernet address, `yiaddr` and `siaddr`, and the options.
+fn wire(
+    alloc: Global,
+    op: u8,
+    number: [u8; 4],
+    station: [u8; 6],
+    addresses: [[u8; 4]; 2],
+    options: &[u8],
+) -> Result<Bytes, Fail> {
+    let [yiaddr, siaddr] = addresses;
+    let mut bytes = Bytes::from_slice(alloc, &[op, 1, 6, 0])?;
+    bytes.push_slice(&number)?;
+    bytes.push_slice(&[0, 0, 0x80, 0, 0, 0, 0, 0])?;
+    bytes.push_slice(&yiaddr)?;
+    bytes.push_slice(&siaddr)?;
+    bytes.push_slice(&[0; 4])?;
+    bytes.push_slice(&station)?;
+    bytes.push_slice(&[0; 202])?;
+    bytes.push_slice(b"\x63\x82Sc")?;
+    bytes.push_slice(options)?;
+    Ok(bytes)
+}
+
 /// A packet: `op`, the last bytes of the client's number and Ethernet address, `yiaddr` and the options.
 fn packet(
     alloc: Global,
@@ -28,15 +51,14 @@ fn packet(
     options: &[u8],
 ) -> Result<Bytes, Fail> {
     let [number, station] = last;
-    let mut bytes = Bytes::from_slice(alloc, &[op, 1, 6, 0])?;
-    bytes.push_slice(&[0x22, 0x33, 0x44, number, 0, 0, 0x80, 0, 0, 0, 0, 0])?;
-    bytes.push_slice(&yiaddr)?;
-    bytes.push_slice(&[0; 8])?;
-    bytes.push_slice(&[0x00, 0x11, 0x22, 0x33, 0x44, station])?;
-    bytes.push_slice(&[0; 202])?;
-    bytes.push_slice(b"\x63\x82Sc")?;
-    bytes.push_slice(options)?;
-    Ok(bytes)
+    wire(
+        alloc,
+        op,
+        [0x22, 0x33, 0x44, number],
+        [0x00, 0x11, 0x22, 0x33, 0x44, station],
+        [yiaddr, [0, 0, 0, 0]],
+        options,
+    )
 }
 
 /// A message of this type of the server 10.0.0.`server`, which gives 10.0.1.`server`.
@@ -362,6 +384,122 @@ fn size_of(sends: &Sends, place: usize) -> usize {
         Some(sent) => sent.bytes.as_slice().len(),
         None => 0,
     }
+}
+
+/// The client of the recorded exchanges.
+const REAL: Mac = Mac {
+    bytes: [0x80, 0xa2, 0x35, 0x4f, 0x4e, 0x10],
+};
+
+/// A packet of the recorded exchanges.
+fn recorded(alloc: Global, op: u8, addresses: [[u8; 4]; 2], options: &[u8]) -> Result<Bytes, Fail> {
+    wire(
+        alloc,
+        op,
+        [0x35, 0x4f, 0x4e, 0x11],
+        REAL.bytes,
+        addresses,
+        options,
+    )
+}
+
+/// The flow of the recorded exchanges.
+fn real_flow(alloc: Global) -> Result<Flow<DhcpCore>, Fail>
+    ensures { IfOk result (λ f. IsNewWaiter dhcp f.core) }
+{
+    Ok(Flow {
+        label: lease_label(alloc, b"eth0")?,
+        core: DhcpCore::new(alloc, REAL, b"x86_64-accton_as7712_32x-r0", 1)?,
+    })
+}
+
+/// Whether the packet that was sent at this place is this one.
+fn is_sent(sends: &Sends, place: usize, at: u64, bytes: &[u8]) -> bool {
+    match sends.as_slice().get(place) {
+        Some(sent) => (sent.at, sent.port) == (at, 67) && sent.bytes.as_slice() == bytes,
+        None => false,
+    }
+}
+
+/// Exchanges with real servers, as they were recorded: what came at which time, and what was asked for. In the first ISC's
+/// dhcpd 4.4.3 offers a second after dnsmasq 2.90; in the second dnsmasq's range was changed before the REQUEST.
+#[test]
+fn servers_answered_so(rt: HostRuntime) -> Result<(), Fail> {
+    let none = [0, 0, 0, 0];
+    let next = [10, 9, 0, 1];
+    for (rows, request, leased, end, name) in [
+        (
+            [
+                (
+                    18,
+                    [10, 9, 0, 20],
+                    next,
+                    b"5\x01\x026\x04\n\t\0\x013\x04\0\0\x0e\x10:\x04\0\0\x07\x08;\x04\0\0\x0cN\x01\x04\xff\xff\xff\0\x1c\x04\n\t\0\xff\x03\x04\n\t\0\x01r\x11http://10.9.0.1/x\xff".as_slice(),
+                ),
+                (
+                    19,
+                    [10, 9, 0, 20],
+                    next,
+                    b"5\x01\x056\x04\n\t\0\x013\x04\0\0\x0e\x10:\x04\0\0\x07\x08;\x04\0\0\x0cN\x01\x04\xff\xff\xff\0\x1c\x04\n\t\0\xff\x03\x04\n\t\0\x01r\x11http://10.9.0.1/x\xff",
+                ),
+                (
+                    1019,
+                    [10, 9, 0, 90],
+                    none,
+                    b"5\x01\x026\x04\n\t\0\x023\x04\0\0\x0e\x10\x01\x04\xff\xff\xff\0\xff\0\0\0\0",
+                ),
+            ]
+            .as_slice(),
+            b"5\x01\x032\x04\n\t\0\x146\x04\n\t\0\x01<'onie_vendor:x86_64-accton_as7712_32x-r07\t\x01\x03\x06BCHr}\x96\xff".as_slice(),
+            20,
+            (18, 19),
+            "two servers",
+        ),
+        (
+            [
+                (
+                    24,
+                    [10, 9, 0, 60],
+                    next,
+                    b"5\x01\x026\x04\n\t\0\x013\x04\0\0\x0e\x10:\x04\0\0\x07\x08;\x04\0\0\x0cN\x01\x04\xff\xff\xff\0\x1c\x04\n\t\0\xff\x03\x04\n\t\0\x01\xff\0\0".as_slice(),
+                ),
+                (
+                    926,
+                    none,
+                    none,
+                    b"5\x01\x066\x04\n\t\0\x018\x15address not available\xff\0\0",
+                ),
+            ]
+            .as_slice(),
+            b"5\x01\x032\x04\n\t\0<6\x04\n\t\0\x01<'onie_vendor:x86_64-accton_as7712_32x-r07\t\x01\x03\x06BCHr}\x96\xff",
+            0,
+            (24, 926),
+            "a NAK",
+        ),
+    ] {
+        let mut list = Vec::new(rt.alloc());
+        for (at, yiaddr, siaddr, options) in rows {
+            let bytes = recorded(rt.alloc(), 2, [*yiaddr, *siaddr], options)?;
+            list.push(datagram(rt.alloc(), b"eth0", *at, bytes)?)?;
+        }
+        let mut net = ListNet::new(rt.alloc(), list, false, &[])?;
+        let mut flows = Vec::new(rt.alloc());
+        flows.push(real_flow(rt.alloc())?)?;
+        let mut sends = Sends::new(rt.alloc());
+        let answer = run(rt.alloc(), &mut net, 1, &mut flows, &mut sends);
+        assert!(rt; answer == Ok(()));
+        let discover =
+            b"5\x01\x01<'onie_vendor:x86_64-accton_as7712_32x-r07\t\x01\x03\x06BCHr}\x96\xff";
+        let first = recorded(rt.alloc(), 1, [none, none], discover)?;
+        let second = recorded(rt.alloc(), 1, [none, none], request)?;
+        let (asked, ended) = end;
+        assert_eq!(rt; sends.as_slice().len(), 2, "{name}");
+        assert!(rt; is_sent(&sends, 0, 0, first.as_slice()), "{name}");
+        assert!(rt; is_sent(&sends, 1, asked, second.as_slice()), "{name}");
+        assert_eq!(rt; leased_last(&rt, &mut flows), leased, "{name}");
+        assert_eq!(rt; net.now(), ended, "{name}");
+    }
+    Ok(())
 }
 
 #[test]
