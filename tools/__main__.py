@@ -11,6 +11,8 @@ from command_line import Refusal, command_line, run
 SCRIPTS = {
     "make_board": ("boards", "makes a board's folder"),
     "show_board": ("boards", "shows a board's folder as text"),
+    "trace_pcap": ("captures", "writes a trace as packets that Wireshark opens"),
+    "script_of_pcap": ("captures", "makes lines of a network script from a capture"),
     "map_tables": ("gate", "prints the crates' levels, and who owns which definition"),
     "plant_bugs": ("gate", "plants the bugs that docs/planted-bugs/ lists"),
     "gate_cost": ("gate", "runs the gate, and prints what its steps took"),

@@ -6,7 +6,16 @@ import unittest
 
 from gate.repository import TOP
 
-SCRIPTS = ["make_board", "show_board", "map_tables", "plant_bugs", "gate_cost", "performance"]
+SCRIPTS = [
+    "make_board",
+    "show_board",
+    "trace_pcap",
+    "script_of_pcap",
+    "map_tables",
+    "plant_bugs",
+    "gate_cost",
+    "performance",
+]
 
 
 def tools(*words: str) -> tuple[int, str, str]:

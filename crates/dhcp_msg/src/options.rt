@@ -1,6 +1,6 @@
 //! The options of a message.
 
-ghost use Rattle.std.specs.Prelude.{◌≡◌, ◌==◌, ◌++◌, ◌∷◌, [], None, OnOk, OnErr, position};
+ghost use Rattle.std.specs.Prelude.{◌≡◌, ◌==◌, ◌++◌, ◌∷◌, [], None, IfOk, OnOk, OnErr, position};
 ghost use Rattle.std.specs.Option.{option_copied};
 ghost use Rattle.dhcp_msg.specs.Options.{value_of, AreDistinct};
 ghost use Rattle.dhcp_msg.specs.Adding.{added};
@@ -46,6 +46,19 @@ fn place_of(entries: &[DhcpOption], code: u8) -> Option<usize>
     entries.iter().position(|entry| entry.code == code)
 }
 
+/// A copy of some options, or `Memory`.
+fn copied(alloc: Global, entries: &[DhcpOption]) -> Result<Vec<DhcpOption>, Memory>
+    ensures { IfOk result (λ copy. copy.items ≡ entries.now) }
+{
+    let mut copy = Vec::new(alloc);
+    for entry in entries {
+        let value = Bytes::from_slice(alloc, entry.value.as_slice())?;
+        let code = entry.code;
+        copy.push(DhcpOption { code, value })?;
+    }
+    Ok(copy)
+}
+
 impl Options {
     /// No options. Takes no memory.
     pub fn new(alloc: Global) -> Options
@@ -81,9 +94,20 @@ impl Options {
         &self.entries
     }
 
-    /// Puts a value behind that of its code, or as one more option in the last place where its code is new.
-    pub(crate) fn add(&mut self, code: u8, value: &[u8]) -> Result<(), Memory>
-        ensures { OnOk result (self.new ≡ added (record { code = code; value = value.now }) self.old) }
+    /// A copy of the options, or `Memory`.
+    pub fn copy(&self, alloc: Global) -> Result<Options, Memory>
+        ensures { IfOk result (λ copy. copy ≡ self.now) }
+    {
+        Ok(Options {
+            entries: copied(alloc, &self.entries)?,
+        })
+    }
+
+    /// Puts a value behind that of its code, or as one more option in the last place where its code is new. Or answers
+    /// `Memory` and changes nothing.
+    pub fn add(&mut self, code: u8, value: &[u8]) -> Result<(), Memory>
+        ensures added { OnOk result (self.new ≡ added (record { code = code; value = value.now }) self.old) }
+        ensures unchanged { OnErr result (self.new ≡ self.old) }
     {
         match place_of(&self.entries, code) {
             Some(place) => {

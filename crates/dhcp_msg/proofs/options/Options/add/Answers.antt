@@ -30,8 +30,8 @@ pub invariant_of-self-in-Continue-branch-3 : goal.invariant_of-self-in-Continue-
 invariant_of-self-in-Continue-branch-3 c =
     subst AreDistinct (sym (last c)) (AreDistinct-added (record { code = c.args.code; value = c.args.value.now }) c.self.inside.entries.items c.self.invariant)
 
-pub returns-in_ok-push_slice-in-Some : goal.returns-in_ok-push_slice-in-Some
-returns-in_ok-push_slice-in-Some c = behind c ∙ ap (added (record { code = c.args.code; value = c.args.value.now })) c.self.view_is
+pub returns-in_ok-push_slice-in-Some-clause-added : goal.returns-in_ok-push_slice-in-Some-clause-added
+returns-in_ok-push_slice-in-Some-clause-added c = behind c ∙ ap (added (record { code = c.args.code; value = c.args.value.now })) c.self.view_is
 
-pub returns-in_ok-push-in-None : goal.returns-in_ok-push-in-None
-returns-in_ok-push-in-None c = last c ∙ ap (added (record { code = c.args.code; value = c.args.value.now })) c.self.view_is
+pub returns-in_ok-push-in-None-clause-added : goal.returns-in_ok-push-in-None-clause-added
+returns-in_ok-push-in-None-clause-added c = last c ∙ ap (added (record { code = c.args.code; value = c.args.value.now })) c.self.view_is

@@ -1,0 +1,4 @@
+pub mod Asking
+pub mod Meanings
+pub mod Leasing
+pub mod Places

@@ -1,0 +1,4 @@
+mod Octets
+mod Lists
+mod Written
+mod Yields

@@ -1,0 +1,5 @@
+pub mod Firsts
+mod Index
+mod Counting
+mod Parts
+mod Parsed

@@ -1,0 +1,7 @@
+use Rattle.std.proofs.Common.{◌≡◌, fold, take}
+use Rattle.waterfall.specs.Firsts.{with_new}
+use Rattle.waterfall.specs.Leases.{in_folder}
+use Rattle.waterfall.proofs.file_lists.push_folder.Given as goal
+
+abbrev pub invariant-loop-name : goal.invariant-loop-name
+invariant-loop-name l = l.list ≡ fold with_new l.fn.list (in_folder (take l.name-index l.names) l.server l.front)

@@ -1,0 +1,1 @@
+"""Captures of packets: a trace as one, and scripts from one."""
