@@ -145,7 +145,11 @@ fn crash_leaves_each_sector_by_its_pick(rt: HostRuntime) -> Result<(), Fail> {
     ];
     for (moment, picks, want) in table {
         assert_eq!(rt; left_by(&plant, moment, picks)?, want, "at {moment}");
-        assert_eq!(rt; left_by_snapshot(&plant, moment, picks)?, want, "at {moment}");
+        assert_eq!(rt;
+            left_by_snapshot(&plant, moment, picks)?,
+            want,
+            "at {moment}"
+        );
     }
     Ok(())
 }
