@@ -1,7 +1,8 @@
 """Makes lines of a network script from a capture of DHCP exchanges.
 
 Each client of the capture is an interface, in the order in which they first ask. What servers sent
-to it comes to its flow at the time since its first DISCOVER. With --mac the replies are made to
+to it comes to its flow at the time since its first DISCOVER, which is when it first asked; a reply
+that came more than a day later is left out, since no script has such a time. With --mac the replies are made to
 fit a board of this base address: the number and the client's address are written anew, and nothing
 else. The capture is one in libpcap's classic form, over Ethernet.
 """
@@ -30,6 +31,9 @@ SHORTEST = 240
 """The bytes of a message's fixed fields and its cookie."""
 
 REQUEST, REPLY = 1, 2
+OPTIONS = 240
+MESSAGE_TYPE, PAD, END = 53, 0, 255
+DISCOVER = 1
 XID = slice(4, 8)
 CHADDR = slice(28, 34)
 COOKIE_PLACE = slice(236, 240)
@@ -68,6 +72,20 @@ def message_in(datagram: Datagram | None) -> bytes | None:
     return payload if len(payload) >= SHORTEST and payload[COOKIE_PLACE] == COOKIE else None
 
 
+def message_type(message: bytes) -> int | None:
+    """The value of option 53 among the options, if it is there (RFC 2132, section 9.6)."""
+    place = OPTIONS
+    while place + 1 < len(message) and message[place] != END:
+        if message[place] == PAD:
+            place += 1
+            continue
+        value = message[place + 2 : place + 2 + message[place + 1]]
+        if message[place] == MESSAGE_TYPE:
+            return value[0] if len(value) == 1 else None
+        place += 2 + message[place + 1]
+    return None
+
+
 def clients_in(data: bytes) -> list[Client]:
     """The clients of a capture, with what came to each."""
     clients: dict[bytes, Client] = {}
@@ -77,7 +95,7 @@ def clients_in(data: bytes) -> list[Client]:
         if message is None or datagram is None:
             continue
         client = clients.get(message[CHADDR])
-        if message[0] == REQUEST and client is None:
+        if message[0] == REQUEST and client is None and message_type(message) == DISCOVER:
             clients[message[CHADDR]] = Client(packet.at)
         elif message[0] == REPLY and client is not None and packet.at - client.since <= LATEST:
             client.replies.append((max(0, packet.at - client.since), datagram.source, message))

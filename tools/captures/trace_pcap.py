@@ -115,7 +115,7 @@ def packets(trace: bytes) -> list[Packet]:
         own_port = FIRST_PORT + labels.setdefault(line.label, len(labels)) % PORTS
         frame = frame_of(line, own_port)
         if frame is None:
-            raise Refusal(f"line {number} has no label of a flow")
+            raise Refusal(f"line {number} has no label of a flow, or too few bytes for it")
         made.append(Packet(line.at, frame))
     return made
 

@@ -170,9 +170,9 @@ class TracePcap(unittest.TestCase):
             (b"\n", "line 1 is no line of a trace"),
             (b"1 0 dhcp eth0 -> 67 0\n", "line 1 is no line of a trace"),
             (b"1 0 tftp 10.0.0.1:69 a -> 65536 00\n", "line 1 is no line of a trace"),
-            (b"1 0 tftp 10.0.0.1:69 a -> 69 00\n1 0 a -> 1 00\n", "line 2 has no label of a flow"),
-            (b"1 0 tftp host:69 a -> 69 00\n", "line 1 has no label of a flow"),
-            (b"1 0 http 10.0.0.1:x /a -> 0 00\n", "line 1 has no label of a flow"),
+            (b"1 0 tftp 10.0.0.1:69 a -> 69 00\n1 0 a -> 1 00\n", "line 2 has no label of a flow, or too few bytes for it"),
+            (b"1 0 tftp host:69 a -> 69 00\n", "line 1 has no label of a flow, or too few bytes for it"),
+            (b"1 0 http 10.0.0.1:x /a -> 0 00\n", "line 1 has no label of a flow, or too few bytes for it"),
             (b"1 0 tftp 10.0.0.1:69 a -> 69 " + b"00" * 65_001, "line 1 has more than 65000 bytes"),
         ):
             with self.subTest(trace[:40]):
@@ -196,12 +196,15 @@ class ScriptOfPcap(unittest.TestCase):
     def exchange(self) -> list[tuple[int, bytes]]:
         """What was on the wire of a real exchange, with other packets between."""
         asked = b"\x01" + OFFER[1:16] + bytes(4) + OFFER[20:]
+        discover = asked.replace(b"\x35\x01\x02", b"\x35\x01\x01", 1)
+        request = asked.replace(b"\x35\x01\x02", b"\x35\x01\x03", 1)
         return [
             (7, bytes(12) + b"\x08\x06" + bytes(28)),
-            (100, udp(68, 67, asked)),
+            (50, udp(68, 67, request)),
+            (100, udp(68, 67, discover)),
             (118, udp(67, 68, OFFER)),
             (118, udp(53, 4000, OFFER)),
-            (119, udp(68, 67, asked)),
+            (119, udp(68, 67, request)),
             (1119, udp(67, 68, ACK, b"\x81\0\0\x07")),
             (1120, udp(67, 68, OFFER[:28] + bytes(6) + OFFER[34:])),
         ]

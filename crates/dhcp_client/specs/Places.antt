@@ -49,8 +49,8 @@ pub data Answers (n : ℕ) (k : Known) (since : ℕ) (xs : List TimedArrival) : 
   unanswered : (left : ℕ) (rest : List TimedArrival) → Passes n k since xs (suc left) rest → IsLate (since + 60000) rest → Answers n k since xs None
   drowned : (rest : List TimedArrival) → Passes n k since xs 0 rest → Answers n k since xs None
 
--- The lease of a client without an offer yet: the first offer decides, within a minute. Of the first 131,072 arrivals none is
--- one too many.
+-- The lease of a client without an offer yet: the first offer decides, within a minute. Neither it nor what follows it
+-- stands behind the first 131,072 arrivals.
 pub data Leases (k : Known) (xs : List TimedArrival) : Option Terms → Type 0 where
   offered : (left : ℕ) (p : TimedArrival) (rest : List TimedArrival) (offer : Offer) (found : Option Terms) → IsFirst 131072 k 0 xs left p rest
       → means k p.arrival ≡ Offered offer → Answers left (with_offer k offer) p.at rest found → Leases k xs found

@@ -7,11 +7,9 @@
 
 mod asking;
 mod dhcp_core;
-mod label;
 mod meaning;
 mod offer;
 #[cfg(test)]
 mod tests;
 
 pub use dhcp_core::DhcpCore;
-pub use label::lease_label;

@@ -8,6 +8,7 @@ use super::*;
 use bd_dev::{Arrival, Bytes, Net};
 use bd_text::Mac;
 use flow::{Core, Flow, Sends, run};
+use flow_labels::dhcp_label;
 use list_net::{ListNet, ListRow};
 use std::alloc::Global;
 use std::process::Abort;
@@ -86,7 +87,7 @@ fn asked(alloc: Global, last: u8, server: u8) -> Result<Bytes, Fail> {
 fn row(alloc: Global, name: &[u8], at: u64, arrival: Arrival) -> Result<ListRow, Fail> {
     Ok(ListRow {
         round: 1,
-        label: lease_label(alloc, name)?,
+        label: dhcp_label(alloc, name)?,
         at,
         arrival,
     })
@@ -105,7 +106,7 @@ fn flow(alloc: Global, name: &[u8], last: u8) -> Result<Flow<DhcpCore>, Fail>
         bytes: [0x00, 0x11, 0x22, 0x33, 0x44, last],
     };
     Ok(Flow {
-        label: lease_label(alloc, name)?,
+        label: dhcp_label(alloc, name)?,
         core: DhcpCore::new(alloc, mac, b"x86_64-kvm_x86_64-r0", 1)?,
     })
 }
@@ -408,7 +409,7 @@ fn real_flow(alloc: Global) -> Result<Flow<DhcpCore>, Fail>
     ensures { IfOk result (λ f. IsNewWaiter dhcp f.core) }
 {
     Ok(Flow {
-        label: lease_label(alloc, b"eth0")?,
+        label: dhcp_label(alloc, b"eth0")?,
         core: DhcpCore::new(alloc, REAL, b"x86_64-accton_as7712_32x-r0", 1)?,
     })
 }

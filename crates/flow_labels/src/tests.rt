@@ -1,4 +1,4 @@
-//! Each label once, and a name of an interface.
+//! Each label once.
 
 use super::*;
 use bd_dev::{Bytes, Memory};

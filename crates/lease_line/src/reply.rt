@@ -35,7 +35,7 @@ const ENTERPRISE: [u8; 4] = [0, 0, 0xa6, 0x7f];
 /// The most bytes of an option's value.
 const LONGEST: usize = 255;
 
-/// The most bytes of a text in option 125, with what stands before it there.
+/// The most bytes of a text in option 125: what is left of its value by what stands before the text there.
 const LONGEST_IN_BLOCK: usize = 248;
 
 /// Which of the two replies of a line it is.

@@ -81,10 +81,10 @@ fn push_all_tftps(
 /// 5. for each lease with a TFTP server, each name in each folder: the interface's Ethernet address, the leased address in
 ///    eight digits, then one digit less each time, and the root.
 ///
-/// The TFTP server is that of option 66, else the first of option 150, else the next server. Each text is shown once, where
-/// it comes first. Answers `Memory` where there is no memory for them.
+/// The TFTP server is that of option 66 or of the field `sname`, else the first of option 150, else the next server. Each
+/// text is shown once, where it comes first. Answers `Memory` where there is no memory for them.
 ///
-/// Source: ONIE design specification, image discovery. That `net` is no local medium, that option 114 is a URL, and the
+/// Source: ONIE user guide, "Image Discovery". That `net` is no local medium, that option 114 is a URL, and the
 /// forms of the shown texts are this project's.
 pub fn candidates(
     alloc: Global,
