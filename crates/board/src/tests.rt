@@ -637,35 +637,30 @@ fn calls_are_counted(rt: HostRuntime) -> Result<(), Fail> {
     Ok(())
 }
 
-/// What a power cut within a call leaves, where all sectors that may be torn are left in one of four ways. None where no
-/// sector may be torn, and the way is not the first.
-fn left_in(
+/// What a power cut within a call leaves, where all sectors that may be torn are left in each of these ways. None where no
+/// sector may be torn.
+fn left_within(
     alloc: Global,
     plant: &SimPlant,
     moment: u64,
-    way: usize,
-) -> Result<Option<SimPlant>, Fail> {
-    if plant.calls() < moment {
-        return Err(Fail::new("no such moment"));
+    ways: &[Pick],
+) -> Result<Vec<SimPlant>, Fail> {
+    let mut images = Vec::new(alloc);
+    if plant.calls() < moment || plant.open_sectors(moment)?.len() == 0 {
+        return Ok(images);
     }
     let snapshot = plant.snapshot(moment)?;
-    if snapshot.open_sectors().len() == 0 && way != 0 {
-        return Ok(None);
+    for way in ways {
+        let mut picks = Vec::new(alloc);
+        for (area, lba) in snapshot.open_sectors() {
+            picks.push((*area, *lba, *way))?;
+        }
+        if !snapshot.allows(picks.as_slice()) {
+            return Err(Fail::new("no such picks"));
+        }
+        images.push(snapshot.image(picks.as_slice())?)?;
     }
-    let pick = match way {
-        0 => Pick::Old,
-        1 => Pick::New,
-        2 => Pick::Torn(0),
-        _ => Pick::Torn(255),
-    };
-    let mut picks = Vec::new(alloc);
-    for (area, lba) in snapshot.open_sectors() {
-        picks.push((*area, *lba, pick))?;
-    }
-    if !snapshot.allows(picks.as_slice()) {
-        return Err(Fail::new("no such picks"));
-    }
-    Ok(Some(snapshot.image(picks.as_slice())?))
+    Ok(images)
 }
 
 /// Whether a board that a power cut left is sound, and reads the same after each power cut within the next opening, which
@@ -673,28 +668,26 @@ fn left_in(
 fn is_repaired(alloc: Global, left: &mut SimPlant) -> Result<bool, Fail> {
     let state = reads(alloc, left)?;
     for moment in 0..=left.calls() {
-        for way in 0..4 {
-            if let Some(mut again) = left_in(alloc, left, moment, way)? {
-                if state.is_none() || reads(alloc, &mut again)? != state {
-                    return Ok(false);
-                }
+        let mut images = left_within(alloc, left, moment, &[Pick::New, Pick::Torn(255)])?;
+        for again in images.iter_mut() {
+            if reads(alloc, again)? != state {
+                return Ok(false);
             }
         }
     }
-    Ok(true)
+    Ok(state.is_some())
 }
 
 #[test]
 fn a_repair_of_a_cut_replacement_may_be_cut(rt: HostRuntime) -> Result<(), Fail> {
     let alloc = rt.alloc();
-    let opening = calls_of(alloc, 0)?;
     let mut plant = sound(alloc, &[])?;
     assert_eq!(rt; change_once(alloc, &mut plant, 3), Ok(true));
-    for moment in opening..=plant.calls() {
-        for way in 0..4 {
-            if let Some(mut left) = left_in(alloc, &plant, moment, way)? {
-                assert!(rt; is_repaired(alloc, &mut left)?, "{moment}");
-            }
+    for moment in 0..=plant.calls() {
+        let ways = [Pick::Old, Pick::New, Pick::Torn(0), Pick::Torn(255)];
+        let mut images = left_within(alloc, &plant, moment, &ways)?;
+        for left in images.iter_mut() {
+            assert!(rt; is_repaired(alloc, left)?, "{moment}");
         }
     }
     Ok(())
