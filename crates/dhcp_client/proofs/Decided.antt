@@ -20,13 +20,6 @@ use Rattle.dhcp_client.specs.Places.{Answers, IsFirst, IsPassed, Leases, Passes,
 
 -- ---- which meanings there are in a wait
 
-offers_alone : (m : Message) (kind : ℕ) (server : V4) → (meaning_of_offer m kind server ≡ Nothing → ⊥) → (o : Offer) × (meaning_of_offer m kind server ≡ Offered o)
-offers_alone m kind server some = by ((kind == 2) && is_address m.yiaddr) refl
-  where
-    by : (b : Bool) → ((kind == 2) && is_address m.yiaddr) ≡ b → (o : Offer) × (meaning_of_offer m kind server ≡ Offered o)
-    by true e = (record { server = server; address = m.yiaddr }, rw e refl)
-    by false e = absurd (some (rw e refl))
-
 -- before an offer no answer means anything
 no_answer_by : (m : Message) (kind : Option ℕ) (server : Option V4) (s : V4) → meaning_by None m kind server ≡ Granted s → ⊥
 no_answer_by m None server s e = cc e

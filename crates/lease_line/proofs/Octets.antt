@@ -1,7 +1,7 @@
 -- Texts that are addresses, as std's reader has them.
-use Rattle.std.proofs.Common.{◌≡◌, ℕ, true, false, ◌==◌, List, [], ◌++◌, length, Option, Some, None, option_map, Result, Ok, Err, ap, sym, subst, ◌∙◌, ⊎_elim, refl, append-nil, arith, lit≤}
+use Rattle.std.proofs.Common.{◌≡◌, ℕ, ◌==◌, List, [], ◌++◌, length, Some, None, option_map, ap, sym, subst, ◌∙◌, ⊎_elim, refl, append-nil, arith, lit≤}
 use Rattle.std.specs.declared.net.ipv4_addr.Ipv4Addr.{Ipv4Addr}
-use Rattle.std.specs.Net.Grammar.{Parses, IsIpv4Text, IsDotted}
+use Rattle.std.specs.Net.Grammar.{IsIpv4Text, IsDotted}
 use Rattle.std.specs.Net.Reader.{whole_value, read_ipv4}
 use Rattle.std.proofs.lemmas.Bool.{cases_Bool}
 use Rattle.std.proofs.lemmas.Bool.Decides.{nat_tests}

@@ -1,5 +1,5 @@
 -- Options that can be written, and one value more.
-use Rattle.std.proofs.Common.{◌≡◌, ◌≢◌, ℕ, ◌+◌, ◌≤◌, Bool, true, false, eqb, cond, List, [], ◌∷◌, ◌++◌, length, Some, refl, arith, length-append}
+use Rattle.std.proofs.Common.{◌≡◌, ◌≢◌, ◌+◌, ◌≤◌, Bool, true, false, eqb, List, [], ◌∷◌, length, refl, arith, length-append}
 use Rattle.std.specs.List.{AllByRecursion}
 use Rattle.dhcp_msg.specs.Adding.{added}
 use Rattle.dhcp_msg.specs.Messages.{IsWritable}

@@ -1,5 +1,5 @@
 -- The replies of a line, and what is wrong with its words.
-use Rattle.std.specs.Prelude.{◌≡◌, ℕ, ◌+◌, ◌==◌, nat_lt, if◌then◌else◌, List, [], ◌∷◌, ◌++◌, length, take, drop, position, unwrap_or, Option, Some, None, Result, Ok, Err}
+use Rattle.std.specs.Prelude.{◌≡◌, ℕ, ◌+◌, ◌==◌, nat_lt, if◌then◌else◌, List, [], ◌∷◌, length, take, drop, position, unwrap_or, Option, Some, None, Result, Ok, Err}
 use Rattle.bd_text.specs.declared.mac.Mac.{Mac}
 use Rattle.bd_text.specs.declared.v4.V4.{V4}
 use Rattle.dhcp_msg.specs.Adding.{added}

@@ -1,5 +1,4 @@
-use Rattle.std.proofs.Common.{ap, sym, ◌∙◌, List, ℕ, Some}
-use Rattle.bd_text.specs.declared.v4.V4.{V4}
+use Rattle.std.proofs.Common.{ap, ◌∙◌, List, ℕ, Some}
 use Rattle.lease_line.proofs.Octets.{address_none, address_read, in_v4}
 use Rattle.lease_line.proofs.address.read_address.Goals as goal
 

@@ -1,4 +1,4 @@
-use Rattle.std.proofs.Common.{◌≡◌, ℕ, List, eqb, map, length, get_or, Some, None, sym, ◌∙◌, ap, rules, tests}
+use Rattle.std.proofs.Common.{eqb, map, length, Some, sym, ◌∙◌, ap, rules, tests}
 use Rattle.std.specs.List.{slice_split}
 use Rattle.std.proofs.lemmas.Iterator.Consumers.{YieldsList-end, YieldsList-turn}
 use Rattle.std.proofs.lemmas.List.{map_push}

@@ -1,8 +1,8 @@
-use Rattle.std.proofs.Common.{◌≡◌, ◌+◌, ◌≤◌, length, List, sym, subst, ap, ◌∙◌, arith}
+use Rattle.std.proofs.Common.{List, sym, subst, arith}
 use Rattle.std.specs.List.{AllByRecursion}
 use Rattle.dhcp_msg.specs.Messages.{IsWritable}
 use Rattle.dhcp_msg.specs.declared.dhcp_option.DhcpOption.{DhcpOption}
-use Rattle.lease_line.specs.Replies.{option, size_of}
+use Rattle.lease_line.specs.Replies.{option}
 use Rattle.lease_line.proofs.Written.{writable_more}
 use Rattle.lease_line.proofs.reply.LeaseReply.add.Goals as goal
 
