@@ -1,5 +1,5 @@
 -- A whole call: an opening, and then a span.
-use Rattle.std.proofs.Common.{◌≡◌, ◌⊎◌, inl, inr, ⊎_elim, ℕ, ◌+◌, ◌≤◌, List, [], ◌∷◌, ◌++◌, length, length-append, take, slice_get, false, Option, Some, None, refl, sym, ◌∙◌, ap, subst, arith}
+use Rattle.std.proofs.Common.{◌≡◌, inl, inr, ⊎_elim, ℕ, ◌+◌, List, [], ◌∷◌, ◌++◌, length, length-append, take, slice_get, false, Option, Some, None, refl, sym, ◌∙◌, ap, subst, arith}
 use Rattle.std.proofs.lemmas.List.{take_all}
 use Rattle.std.proofs.lemmas.Option.{slice_get_past}
 use Rattle.bd_dev.specs.declared.plant.Area.{Area}
@@ -8,24 +8,31 @@ use Rattle.bd_dev.specs.Content.{Image}
 use Rattle.bd_dev.specs.Plant.{View, IsImage}
 use Rattle.bd_dev.proofs.Joins.{leaves_then, reads_then}
 use Rattle.bd_dev.proofs.Touch.{leaves_weaker, reads_weaker}
+use Rattle.gpt_copy.specs.declared.table.Which.TheVariants.{Primary}
+use Rattle.storage_model.specs.Choices.{boots_in, boots_of}
 use Rattle.storage_model.specs.Copies.{IsCleanOpening}
-use Rattle.storage_model.specs.Soundness.{IsSoundBoard}
+use Rattle.storage_model.specs.Soundness.{IsSoundBoard, IsSoundTable}
+use Rattle.storage_model.specs.Variables.{IsText}
+use Rattle.storage_model.proofs.BootLemmas.{sound_boots}
 use Rattle.cuts.specs.declared.effect.Effect.{Effect}
 use Rattle.cuts.specs.declared.effect.Effect.TheVariants.{Put, Sync, Table as SetTable, Vars as SetVars}
 use Rattle.cuts.specs.States.{State, after, after_one, nothing, pending, pending_one}
-use Rattle.cuts.specs.Cuts.{IsCutAt, IsSomeCleanCut, MayBeCut, MayBeCutAt, MayBeSomeCut}
+use Rattle.cuts.specs.Cuts.{IsCutAt, IsSomeCleanCut, MayBeCut, MayBeCutAt, MayBeSomeCut, stored_of}
 use Rattle.cuts.specs.Law.{BootsWhole, IsStart, state_in}
 use Rattle.cuts.specs.Orderly.{AreLawful, AreOrderly, IsLawful}
 use Rattle.cuts.specs.Spans.{IsSettledFrom, MayBeOpeningCut, Opens, Spans, Value, pending_of, state_of}
 use Rattle.cuts.specs.Whole.{HoldsState, OpensAndChanges, PutsNothing}
 use Rattle.cuts.proofs.Beginning.{image_starts}
 use Rattle.cuts.proofs.Booting.{boots}
-use Rattle.cuts.proofs.Copying.{table_of_both}
+use Rattle.cuts.proofs.Copying.{copy_fits, table_of_both}
+use Rattle.cuts.proofs.Images.{image_kept}
 use Rattle.cuts.proofs.Joins.{effects_are, span_ends}
 use Rattle.cuts.proofs.Parts.{may_back}
 use Rattle.cuts.proofs.Patches.{patched_out}
+use Rattle.cuts.proofs.Places.{entry_off}
 use Rattle.cuts.proofs.Reading.{image_off}
 use Rattle.cuts.proofs.Runs.{after-append, lawful_back, pending-append}
+use Rattle.cuts.proofs.Starts.{first_inside}
 
 -- an opening's cut is a cut of no effects
 pub opening_boots : (size : Area → ℕ) (z : Image) (sound : IsSoundBoard size z) (c : Image) → MayBeOpeningCut size z c → IsCleanOpening (size Disk) z c
@@ -59,10 +66,13 @@ module _ (size : Area → ℕ) (s : State) (U : ℕ → Type 0) (xs : List Effec
       (boots size s U xs start lawful orderly (length xs) (omega arith) c (subst (λ (T : Type 0). T) (sym (ends (λ t V x. IsCutAt size t V x c))) here))
 
 own_settles : (own : List Effect) → PutsNothing own → pending nothing own ≡ nothing
-own_settles own (inl is) = ap (pending nothing) is
-own_settles own (inr is) = ap (pending nothing) is.1
+own_settles [] none = refl
+own_settles (Put lba bytes ∷ own) none = absurd none.0
+own_settles (Sync ∷ own) none = own_settles own none.1
+own_settles (SetTable t ∷ own) none = own_settles own none.1
+own_settles (SetVars text ∷ own) none = own_settles own none.1
 
--- nothing is pending once a run has ended with a sync, and perhaps a change of the variables
+-- nothing is pending once a run has synced, and put no sectors since
 pub settles : (U : ℕ → Type 0) (xs own : List Effect) → PutsNothing own → pending U (xs ++ Sync ∷ own) ≡ nothing
 settles U xs own last = pending-append U xs (Sync ∷ own) ∙ own_settles own last
 
@@ -75,6 +85,32 @@ holds_state size s U xs own last c cut =
       variables = at.variables;
       sectors = λ q lt off. at.sectors q lt off (λ pends. subst (λ (V : ℕ → Type 0). V q) (settles U xs own last) pends) (λ none. none);
     }
+
+-- an image that holds all of a sound state is sound, with the same table and variables
+held_sound : (size : Area → ℕ) (s : State) (c : Image) → HoldsState size s c → IsSoundTable s.disk s.table → IsText s.text → IsSoundBoard size c
+held_sound size s c holds sound text = record {
+  table = s.table;
+  disk = record {
+    table = table_of_both (size Disk) (c Disk) s.table holds.table;
+    sound = record {
+      sane = sound.sane;
+      index = sound.index;
+      onie = sound.onie;
+      one = sound.one;
+      image = image_kept s.disk (c Disk) sound.onie
+          (let free = entry_off (size Disk) s.table sound.index sound.onie (copy_fits Primary (size Disk) (c Disk) s.table holds.table.primary) sound.sane sound.one.has.has sound.onie.first (first_inside s.disk s.table sound) in
+          holds.sectors sound.onie.first free.within free.off)
+          sound.image;
+    };
+  };
+  kept = stored_of s;
+  variables = record { is = holds.variables; text = text };
+}
+
+-- so it boots what they say
+pub held_boots : (size : Area → ℕ) (s : State) (c : Image) → HoldsState size s c → IsSoundTable s.disk s.table → IsText s.text → boots_in size c ≡ boots_of s.table s.text
+unfolding held_sound
+held_boots size s c holds sound text = sound_boots size c (held_sound size s c holds sound text)
 
 -- behind an effect, or while it runs
 

@@ -6,10 +6,11 @@ use Rattle.bd_dev.specs.Content.{Image, SameSector}
 use Rattle.bd_dev.specs.Plant.{View, IsImage}
 use Rattle.bd_dev.specs.Runs.{LeavesOnly, ReadsOnly}
 use Rattle.storage_model.specs.Copies.{IsCleanOpening, OffCopies, ReadsBoth}
-use Rattle.storage_model.specs.Soundness.{IsSoundBoard}
-use Rattle.storage_model.specs.Variables.{kept_in}
+use Rattle.storage_model.specs.Choices.{boots_in, boots_of}
+use Rattle.storage_model.specs.Soundness.{IsSoundBoard, IsSoundTable}
+use Rattle.storage_model.specs.Variables.{IsText, kept_in}
 use Rattle.cuts.specs.declared.effect.Effect.{Effect}
-use Rattle.cuts.specs.declared.effect.Effect.TheVariants.{Sync, Vars as SetVars}
+use Rattle.cuts.specs.declared.effect.Effect.TheVariants.{Put, Sync}
 use Rattle.cuts.specs.States.{State, after, nothing}
 use Rattle.cuts.specs.Cuts.{IsSomeCleanCut, MayBeCut, MayBeSomeCut, stored_of}
 use Rattle.cuts.specs.Orderly.{AreLawful, AreOrderly}
@@ -22,9 +23,15 @@ pub record HoldsState (size : Area → ℕ) (s : State) (c : Image) : Type 0 whe
   pub variables : kept_in (size Flash) (c Flash) ≡ Some (stored_of s)
   pub sectors : (q : ℕ) → q < size Disk → OffCopies (size Disk) q → SameSector s.disk (c Disk) q
 
--- nothing, or one change of the variables: no sector is pending after it that wasn't before
+-- an effect that puts no sectors
+abbrev pub IsNoPut : Effect → Type 0
+IsNoPut (Put lba bytes) = ⊥
+IsNoPut x = Unit {0}
+
+-- none of these puts sectors: no sector is pending after them that wasn't before
 abbrev pub PutsNothing : List Effect → Type 0
-PutsNothing own = (own ≡ []) ⊎ ((text : List ℕ) × (own ≡ SetVars text ∷ []))
+PutsNothing [] = Unit {0}
+PutsNothing (x ∷ xs) = IsNoPut x × PutsNothing xs
 
 -- What a power cut leaves while a sound board is opened boots as that board did, wherever it is clean.
 abbrev pub LawOfOpenings : Type 0
@@ -34,17 +41,33 @@ LawOfOpenings =
     → IsCleanOpening (size Disk) z c
     → BootsWhole size (state_in size z sound) (state_in size z sound) c
 
--- Success stays: once a run has ended with a sync, and perhaps a change of the variables, nothing is pending. Whatever
--- cut comes then holds all of the state that the run has reached, and boots it; no torn copy is to be excused.
+-- Success stays: once a run has synced, and put no sectors since, nothing is pending. Whatever cut comes then holds all
+-- of the state that the run has reached, orderly or not; no torn copy is to be excused.
 abbrev pub LawOfSuccess : Type 0
 LawOfSuccess =
     (size : Area → ℕ) (s : State) (P : ℕ → Bool) (xs own : List Effect)
-    → IsStart size s (λ q. IsTrue (P q))
-    → AreLawful (size Disk) s (xs ++ Sync ∷ own)
-    → AreOrderly s (λ q. IsTrue (P q)) (xs ++ Sync ∷ own)
     → PutsNothing own
     → (c : Image) → MayBeCut size s (λ q. IsTrue (P q)) (xs ++ Sync ∷ own) (length (xs ++ Sync ∷ own)) c
-    → HoldsState size (after s (xs ++ Sync ∷ own)) c × BootsWhole size s (after s (xs ++ Sync ∷ own)) c
+    → HoldsState size (after s (xs ++ Sync ∷ own)) c
+
+-- An image that holds all of a sound state boots what that state's table and variables say, and only that.
+abbrev pub LawOfBoots : Type 0
+LawOfBoots =
+    (size : Area → ℕ) (s : State) (c : Image)
+    → HoldsState size s c
+    → IsSoundTable s.disk s.table
+    → IsText s.text
+    → boots_in size c ≡ boots_of s.table s.text
+
+-- At the end of an orderly run whatever cut comes boots, also where sectors are pending; no torn copy is to be excused.
+abbrev pub LawOfEnds : Type 0
+LawOfEnds =
+    (size : Area → ℕ) (s : State) (P : ℕ → Bool) (xs : List Effect)
+    → IsStart size s (λ q. IsTrue (P q))
+    → AreLawful (size Disk) s xs
+    → AreOrderly s (λ q. IsTrue (P q)) xs
+    → (c : Image) → MayBeCut size s (λ q. IsTrue (P q)) xs (length xs) c
+    → BootsWhole size s (after s xs) c
 
 -- A cut behind the last effect is one in which that effect runs: so where a board failed in an effect, those before it
 -- are done, and of that one nothing need be known.

@@ -1,7 +1,7 @@
 //! The law of cuts.
 
 ghost use Rattle.cuts.specs.Law.{CleanCutsAreCuts, LawOfCuts, LawOfStarts, SoundBoardsAreStarts};
-ghost use Rattle.cuts.specs.Whole.{LawOfOpenings, LawOfSuccess, LawOfTheLast};
+ghost use Rattle.cuts.specs.Whole.{LawOfBoots, LawOfEnds, LawOfOpenings, LawOfSuccess, LawOfTheLast};
 
 /// The law of cuts: from a sound state, with pending sectors in neither ONIE's entry nor the named one, at every cut
 /// of every lawful and orderly run of effects the image is sound, ONIE's partition reads as at the start, and the NOS
@@ -32,10 +32,20 @@ pub fn law_of_openings()
     ensures { LawOfOpenings }
 {}
 
-/// Success stays: once a run has ended with a sync, and perhaps a change of the variables, nothing is pending. Whatever
-/// cut comes then holds all of the state that the run has reached, and boots it.
+/// Success stays: once a run has synced, and put no sectors since, nothing is pending. Whatever cut comes then holds all
+/// of the state that the run has reached, orderly or not.
 pub fn law_of_success()
     ensures { LawOfSuccess }
+{}
+
+/// An image that holds all of a sound state boots what that state's table and variables say, and only that.
+pub fn law_of_boots()
+    ensures { LawOfBoots }
+{}
+
+/// At the end of an orderly run whatever cut comes boots, also where sectors are pending: no torn copy is to be excused.
+pub fn law_of_ends()
+    ensures { LawOfEnds }
 {}
 
 /// A cut behind the last effect is one in which that effect runs. So where a board failed in an effect, those before it

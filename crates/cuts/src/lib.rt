@@ -10,6 +10,6 @@ mod law;
 
 pub use effect::Effect;
 pub use law::{
-    clean_cuts_are_cuts, law_of_cuts, law_of_openings, law_of_starts, law_of_success,
-    law_of_the_last, sound_boards_are_starts,
+    clean_cuts_are_cuts, law_of_boots, law_of_cuts, law_of_ends, law_of_openings, law_of_starts,
+    law_of_success, law_of_the_last, sound_boards_are_starts,
 };
