@@ -1,11 +1,11 @@
 -- A text is read in one way at most.
-use Rattle.std.proofs.Common.{◌≡◌, ℕ, Bool, true, false, refl, sym, subst, ap, List, [], ◌∷◌, ◌∙◌}
+use Rattle.std.proofs.Common.{◌≡◌, Bool, true, false, refl, sym, subst, ap, List, [], ◌∷◌}
 use Rattle.sh_tree.specs.declared.AndOr.{AndOr}
 use Rattle.sh_parser.specs.declared.SyntaxKind.{SyntaxKind}
 use Rattle.sh_parser.specs.declared.SyntaxKind.TheVariants.{Unexpected}
 use Rattle.sh_text.specs.Front.{Text}
 use Rattle.sh_parser.specs.Faults.{stray_kind, stray_place}
-use Rattle.sh_parser.specs.Grammar.{Phrase, Value, Body, stop, fault, call, rule, Outcome, done, faulty, Reads, by_rule, Runs, stops, fails, reads, reads_fault, IsProgram, IsFaultAt, within, behind}
+use Rattle.sh_parser.specs.Grammar.{Phrase, Value, Body, fault, Outcome, done, faulty, Reads, by_rule, Runs, stops, fails, reads, reads_fault, IsProgram, IsFaultAt, within, behind}
 
 -- what is read next, after an outcome
 abbrev next : {A B : Type 0} → (A → Text → Body B) → Outcome A → Body B

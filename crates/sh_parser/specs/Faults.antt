@@ -1,9 +1,8 @@
 -- Redirections, and the faults of tokens that can't stand where they stand.
-use Rattle.std.specs.Prelude.{ℕ, ◌==◌, Bool, true, false, not, ◌||◌, ◌&&◌, is_some, if◌then◌else◌, List, [], ◌∷◌, drop, Option, Some, None, codes}
+use Rattle.std.specs.Prelude.{ℕ, ◌==◌, Bool, false, not, ◌||◌, ◌&&◌, is_some, if◌then◌else◌, List, [], ◌∷◌, drop, Some, None, codes}
 use Rattle.sh_tree.specs.declared.Redir.{Redir}
 use Rattle.sh_tree.specs.declared.Redir.TheVariants.{OutNull, ErrNull, ErrToOut, OutToErr}
-use Rattle.sh_text.specs.declared.Class.TheVariants.{Digits}
-use Rattle.sh_text.specs.Front.{Text, gap, follow, reserved, past, is_end, is_word, is_redirection}
+use Rattle.sh_text.specs.Front.{Text, gap, follow, reserved, is_end, is_word, is_redirection}
 use Rattle.sh_parser.specs.declared.SyntaxKind.{SyntaxKind}
 use Rattle.sh_parser.specs.declared.SyntaxKind.TheVariants.{Unexpected, Unclosed, LeftOut, Deep, Nul}
 use Rattle.sh_parser.specs.declared.redirection.Direction.{Direction}

@@ -1,6 +1,6 @@
 -- The grammar of the shell: what is read at a place, by what stands there
 -- (POSIX.1-2017, "Shell Command Language", section 2.10, without what this shell leaves out).
-use Rattle.std.specs.Prelude.{◌≡◌, ℕ, ◌-◌, ◌==◌, Bool, true, false, not, ◌||◌, ◌&&◌, if◌then◌else◌, List, [], ◌∷◌, ◌++◌, drop, Option, Some, None, codes}
+use Rattle.std.specs.Prelude.{ℕ, ◌-◌, ◌==◌, Bool, true, false, not, ◌||◌, ◌&&◌, if◌then◌else◌, List, [], ◌∷◌, ◌++◌, drop, Option, Some, None, codes}
 use Rattle.sh_tree.specs.declared.Part.{Part}
 use Rattle.sh_tree.specs.declared.Part.TheVariants.{Byte, Param, Output, Arith}
 use Rattle.sh_tree.specs.declared.Param.TheVariants.{Place as Positional}
@@ -20,7 +20,7 @@ use Rattle.sh_text.specs.Front.{Text, joined, gap, follow, reserved, past, run, 
 use Rattle.sh_parser.specs.declared.SyntaxKind.{SyntaxKind}
 use Rattle.sh_parser.specs.declared.SyntaxKind.TheVariants.{Unexpected, Unclosed, LeftOut, Deep, Nul}
 use Rattle.sh_parser.specs.declared.words.Mode.{Mode}
-use Rattle.sh_parser.specs.declared.words.Mode.TheVariants.{Bare, Double, Braces, QuotedBraces, Arithmetic}
+use Rattle.sh_parser.specs.declared.words.Mode.TheVariants.{Bare, Double, Arithmetic}
 use Rattle.sh_parser.specs.declared.words.Role.{Role}
 use Rattle.sh_parser.specs.declared.words.Role.TheVariants.{Open, Nul as Zero, LeftOut as Backquote, Plain, Escape, Single, Double as Quotes, Dollar, Paren}
 use Rattle.sh_parser.specs.declared.words.Shape.{Shape}

@@ -1,8 +1,9 @@
 //! Lists, pipelines and commands (sections 2.9 and 2.10).
 
-ghost use Rattle.std.specs.Prelude.{◌≡◌, ◌≤◌, ◌<◌, ◌+◌, length, MatchOption, OnOk, OnSome, IfSome, IsTrue};
-ghost use Rattle.sh_text.specs.Front.{is_word};
+ghost use Rattle.std.specs.Prelude.{◌≡◌, ◌≤◌, ◌<◌, ◌+◌, length, MatchOption, MatchResult, OnOk, OnSome, IfSome, IsTrue};
+ghost use Rattle.sh_text.specs.Front.{is_word, run};
 ghost use Rattle.sh_parser.specs.Grammar.{Phrase, is_separator, begins_nothing, is_nil, is_stuck, is_assignment, assigns_at, single_bar, past_function_name};
+ghost use Rattle.sh_parser.specs.Reading.{Reading, Separates, Linked, SimpleReading};
 ghost use Rattle.sh_parser.specs.declared.words.Mode.TheVariants.{Bare};
 
 use crate::SyntaxKind;
@@ -13,7 +14,9 @@ use sh_text::{
     Class, begins_name, begins_with, ends_list, first, follow, gap, is_closing, is_misplaced,
     is_opening, is_redirection, is_word, joined, past, reserved, run,
 };
-use sh_tree::{AndOr, Assign, Command, Commands, Form, Link, List, Pipeline, Redir, Redirs, Word};
+use sh_tree::{
+    AndOr, Assign, Bytes, Command, Commands, Form, Link, List, Pipeline, Redir, Redirs, Word,
+};
 use sqlite_items::{Boxed, Items};
 use std::alloc::Global;
 
@@ -21,6 +24,7 @@ impl<'a> Reader<'a> {
     /// AND-OR lists, up to what ends a list. There may be none.
     #[cycle(read)]
     pub fn list(&mut self, alloc: Global, depth: u32) -> Result<List, Failed>
+        ensures reads { Reading (Phrase.list depth) self.old.rest.now self.new.rest.now result }
         ensures shorter { length self.new.rest.now ≤ length self.old.rest.now }
     {
         let mut all = Items::new(alloc);
@@ -41,6 +45,7 @@ impl<'a> Reader<'a> {
 
     // goes past a `;` or a line end
     fn separator(&mut self, depth: u32) -> Result<(), Failed>
+        ensures separates { Separates depth self.old.rest.now self.new.rest.now result }
         ensures shorter { length self.new.rest.now ≤ length self.old.rest.now }
         ensures strict { OnOk result (length self.new.rest.now < length self.old.rest.now) }
     {
@@ -60,6 +65,7 @@ impl<'a> Reader<'a> {
     /// A list that isn't empty.
     #[cycle(read)]
     pub fn some_list(&mut self, alloc: Global, depth: u32) -> Result<List, Failed>
+        ensures reads { Reading (Phrase.some_list depth) self.old.rest.now self.new.rest.now result }
         ensures shorter { length self.new.rest.now ≤ length self.old.rest.now }
     {
         self.rest = gap(self.rest, true);
@@ -71,6 +77,7 @@ impl<'a> Reader<'a> {
 
     #[cycle(read)]
     fn and_or(&mut self, alloc: Global, depth: u32) -> Result<AndOr, Failed>
+        ensures reads { Reading (Phrase.and_or depth) self.old.rest.now self.new.rest.now result }
         ensures shorter { length self.new.rest.now ≤ length self.old.rest.now }
     {
         let first = self.pipeline(alloc, depth)?;
@@ -88,6 +95,7 @@ impl<'a> Reader<'a> {
 
     // goes past `&&` (true) or `||` (false) and line ends, if they follow
     fn link(&mut self) -> Option<bool>
+        ensures linked { Linked self.old.rest.now self.new.rest.now result }
         ensures shorter { length self.new.rest.now ≤ length self.old.rest.now }
         ensures strict { OnSome result (length self.new.rest.now < length self.old.rest.now) }
     {
@@ -109,6 +117,7 @@ impl<'a> Reader<'a> {
 
     #[cycle(read)]
     fn pipeline(&mut self, alloc: Global, depth: u32) -> Result<Pipeline, Failed>
+        ensures reads { Reading (Phrase.pipeline depth) self.old.rest.now self.new.rest.now result }
         ensures shorter { length self.new.rest.now ≤ length self.old.rest.now }
     {
         match reserved(b"!", self.rest) {
@@ -132,6 +141,7 @@ impl<'a> Reader<'a> {
 
     #[cycle(read)]
     fn commands(&mut self, alloc: Global, depth: u32) -> Result<Commands, Failed>
+        ensures reads { Reading (Phrase.commands depth) self.old.rest.now self.new.rest.now result }
         ensures shorter { length self.new.rest.now ≤ length self.old.rest.now }
     {
         let mut commands = Items::new(alloc);
@@ -148,6 +158,7 @@ impl<'a> Reader<'a> {
 
     #[cycle(read)]
     fn command(&mut self, alloc: Global, depth: u32) -> Result<Command, Failed>
+        ensures reads { Reading (Phrase.command depth) self.old.rest.now self.new.rest.now result }
         ensures shorter { length self.new.rest.now ≤ length self.old.rest.now }
     {
         if is_opening(self.rest) {
@@ -165,6 +176,7 @@ impl<'a> Reader<'a> {
     // a compound command and its redirections
     #[cycle(read)]
     fn enclosed(&mut self, alloc: Global, depth: u32) -> Result<Command, Failed>
+        ensures reads { Reading (Phrase.enclosed depth) self.old.rest.now self.new.rest.now result }
         ensures shorter { length self.new.rest.now ≤ length self.old.rest.now }
     {
         let form = self.compound(alloc, depth)?;
@@ -176,6 +188,7 @@ impl<'a> Reader<'a> {
     }
 
     fn redirs(&mut self, alloc: Global, depth: u32) -> Result<Redirs, Failed>
+        ensures reads { Reading (Phrase.redirs depth) self.old.rest.now self.new.rest.now result }
         ensures shorter { length self.new.rest.now ≤ length self.old.rest.now }
     {
         let mut redirs = Items::new(alloc);
@@ -190,6 +203,7 @@ impl<'a> Reader<'a> {
     }
 
     fn redir(&mut self, depth: u32) -> Result<Redir, Failed>
+        ensures reads { Reading (Phrase.redir depth) self.old.rest.now self.new.rest.now result }
         ensures shorter { length self.new.rest.now ≤ length self.old.rest.now }
         ensures strict { OnOk result (length self.new.rest.now < length self.old.rest.now) }
     {
@@ -214,10 +228,12 @@ impl<'a> Reader<'a> {
     // `rest` follows the `(`
     #[cycle(read)]
     fn function(&mut self, alloc: Global, rest: &'a [u8], depth: u32) -> Result<Command, Failed>
-        requires { length rest.now ≤ length self.old.rest.now }
+        requires follows { past_function_name self.old.rest.now ≡ Some rest.now }
+        requires within { length rest.now ≤ length self.old.rest.now }
+        ensures reads { Reading (Phrase.function depth) self.old.rest.now self.new.rest.now result }
         ensures shorter { length self.new.rest.now ≤ length self.old.rest.now }
     {
-        let name = run(alloc, Class::Name, self.rest)?;
+        let name = name_at(alloc, self.rest)?;
         self.rest = gap(rest, false);
         self.need(b")", depth)?;
         self.rest = gap(self.rest, true);
@@ -237,6 +253,7 @@ impl<'a> Reader<'a> {
     // assignments while there are no words, words, and redirections among them
     #[cycle(read)]
     fn simple(&mut self, alloc: Global, depth: u32) -> Result<Command, Failed>
+        ensures reads { SimpleReading depth self.old.rest.now self.new.rest.now result }
         ensures shorter { length self.new.rest.now ≤ length self.old.rest.now }
     {
         let mut assigns = Items::new(alloc);
@@ -267,10 +284,11 @@ impl<'a> Reader<'a> {
     // `NAME=` and a word, which may be empty
     #[cycle(read)]
     fn assign(&mut self, alloc: Global, depth: u32) -> Result<Assign, Failed>
+        ensures reads { Reading (Phrase.assign depth) self.old.rest.now self.new.rest.now result }
         ensures shorter { length self.new.rest.now ≤ length self.old.rest.now }
         ensures strict { OnOk result (length self.new.rest.now < length self.old.rest.now) }
     {
-        let name = run(alloc, Class::Name, self.rest)?;
+        let name = name_at(alloc, self.rest)?;
         self.rest = past(Class::Name, self.rest);
         self.need(b"=", depth)?;
         let value = self.parts(alloc, Mode::Bare, depth)?;
@@ -281,6 +299,7 @@ impl<'a> Reader<'a> {
     #[cycle(read)]
     pub fn word(&mut self, alloc: Global, depth: u32) -> Result<Word, Failed>
         requires { IsTrue (is_word self.old.rest.now) }
+        ensures reads { Reading (Phrase.parts Bare depth) self.old.rest.now self.new.rest.now result }
         ensures shorter { length self.new.rest.now ≤ length self.old.rest.now }
         ensures strict { OnOk result (length self.new.rest.now < length self.old.rest.now) }
     {
@@ -289,6 +308,16 @@ impl<'a> Reader<'a> {
         let more = self.parts(alloc, Mode::Bare, depth)?;
         append(&mut word, more)?;
         Ok(word)
+    }
+}
+
+/// The name at the front of a text.
+pub fn name_at(alloc: Global, text: &[u8]) -> Result<Bytes, Failed>
+    ensures { MatchResult result (λ name. name ≡ run Class.Name text.now) (λ e. e ≡ Failed.Memory) }
+{
+    match run(alloc, Class::Name, text) {
+        Ok(name) => Ok(name),
+        Err(_) => Err(Failed::Memory),
     }
 }
 

@@ -2,13 +2,13 @@
 
 ghost use Rattle.std.specs.Prelude.{◌≡◌, ◌≤◌, ◌<◌, ◌+◌, length, MatchOption, OnOk, IfSome};
 ghost use Rattle.sh_parser.specs.Grammar.{Phrase, opening, opened, is_name, single_semicolon};
+ghost use Rattle.sh_parser.specs.Reading.{Reading, FormReading, BranchesReading, EndsWords};
 
 use crate::SyntaxKind;
-use crate::commands::single_bar;
+use crate::commands::{name_at, single_bar};
 use crate::reader::{Failed, Reader, push};
 use sh_text::{
     Class, begins_name, begins_with, ends_token, follow, gap, is_reserved, is_word, past, reserved,
-    run,
 };
 use sh_tree::{Arm, Case, Cases, Form, List, Words};
 use sqlite_items::Items;
@@ -53,6 +53,7 @@ fn opening_at(text: &[u8]) -> Opening
 impl Reader<'_> {
     #[cycle(read)]
     pub fn compound(&mut self, alloc: Global, depth: u32) -> Result<Form, Failed>
+        ensures reads { Reading (Phrase.compound depth) self.old.rest.now self.new.rest.now result }
         ensures shorter { length self.new.rest.now ≤ length self.old.rest.now }
     {
         if depth == 0 {
@@ -65,6 +66,7 @@ impl Reader<'_> {
     // the form that begins so
     #[cycle(read)]
     fn form(&mut self, alloc: Global, opening: Opening, depth: u32) -> Result<Form, Failed>
+        ensures reads { FormReading opening depth self.old.rest.now self.new.rest.now result }
         ensures shorter { length self.new.rest.now ≤ length self.old.rest.now }
     {
         match opening {
@@ -107,6 +109,7 @@ impl Reader<'_> {
     // after `if`
     #[cycle(read)]
     fn branches(&mut self, alloc: Global, depth: u32) -> Result<Form, Failed>
+        ensures reads { BranchesReading depth self.old.rest.now self.new.rest.now result }
         ensures shorter { length self.new.rest.now ≤ length self.old.rest.now }
     {
         let mut arms = Items::new(alloc);
@@ -128,6 +131,7 @@ impl Reader<'_> {
     // `else` and its list, if they are there, and `fi`
     #[cycle(read)]
     fn otherwise(&mut self, alloc: Global, depth: u32) -> Result<Option<List>, Failed>
+        ensures reads { Reading (Phrase.otherwise depth) self.old.rest.now self.new.rest.now result }
         ensures shorter { length self.new.rest.now ≤ length self.old.rest.now }
     {
         match reserved(b"else", self.rest) {
@@ -147,6 +151,7 @@ impl Reader<'_> {
     // after `while` or `until`
     #[cycle(read)]
     fn turns(&mut self, alloc: Global, until: bool, depth: u32) -> Result<Form, Failed>
+        ensures reads { Reading (Phrase.turns until depth) self.old.rest.now self.new.rest.now result }
         ensures shorter { length self.new.rest.now ≤ length self.old.rest.now }
     {
         let test = self.some_list(alloc, depth)?;
@@ -157,6 +162,7 @@ impl Reader<'_> {
     // `do`, a list and `done`
     #[cycle(read)]
     fn do_group(&mut self, alloc: Global, depth: u32) -> Result<List, Failed>
+        ensures reads { Reading (Phrase.do_group depth) self.old.rest.now self.new.rest.now result }
         ensures shorter { length self.new.rest.now ≤ length self.old.rest.now }
     {
         self.need_word(b"do", depth)?;
@@ -168,13 +174,14 @@ impl Reader<'_> {
     // after `for`
     #[cycle(read)]
     fn each(&mut self, alloc: Global, depth: u32) -> Result<Form, Failed>
+        ensures reads { Reading (Phrase.each depth) self.old.rest.now self.new.rest.now result }
         ensures shorter { length self.new.rest.now ≤ length self.old.rest.now }
     {
         self.rest = gap(self.rest, false);
         if !is_name(self.rest) {
             return Err(self.stray(depth));
         }
-        let name = run(alloc, Class::Name, self.rest)?;
+        let name = name_at(alloc, self.rest)?;
         self.rest = gap(past(Class::Name, self.rest), false);
         let words = self.each_words(alloc, depth)?;
         let body = self.do_group(alloc, depth)?;
@@ -184,6 +191,7 @@ impl Reader<'_> {
     // the words after `in`, if there is an `in`, up to `do`
     #[cycle(read)]
     fn each_words(&mut self, alloc: Global, depth: u32) -> Result<Option<Words>, Failed>
+        ensures reads { Reading (Phrase.each_words depth) self.old.rest.now self.new.rest.now result }
         ensures shorter { length self.new.rest.now ≤ length self.old.rest.now }
     {
         match single_semicolon(self.rest) {
@@ -207,7 +215,9 @@ impl Reader<'_> {
     }
 
     // behind the words of `for`: a `;` or a line end, and line ends
+    #[tactic(auto, unfolding(crate::specs::Grammar::ended_words))]
     fn end_words(&mut self, depth: u32) -> Result<(), Failed>
+        ensures ends { EndsWords depth self.old.rest.now self.new.rest.now result }
         ensures shorter { length self.new.rest.now ≤ length self.old.rest.now }
     {
         match single_semicolon(self.rest) {
@@ -225,6 +235,7 @@ impl Reader<'_> {
 
     #[cycle(read)]
     fn words(&mut self, alloc: Global, depth: u32) -> Result<Words, Failed>
+        ensures reads { Reading (Phrase.words depth) self.old.rest.now self.new.rest.now result }
         ensures shorter { length self.new.rest.now ≤ length self.old.rest.now }
     {
         let mut words = Items::new(alloc);
@@ -241,6 +252,7 @@ impl Reader<'_> {
     // after `case`
     #[cycle(read)]
     fn choice(&mut self, alloc: Global, depth: u32) -> Result<Form, Failed>
+        ensures reads { Reading (Phrase.choice depth) self.old.rest.now self.new.rest.now result }
         ensures shorter { length self.new.rest.now ≤ length self.old.rest.now }
     {
         self.rest = gap(self.rest, false);
@@ -257,6 +269,7 @@ impl Reader<'_> {
     // items up to `esac`
     #[cycle(read)]
     fn cases(&mut self, alloc: Global, depth: u32) -> Result<Cases, Failed>
+        ensures reads { Reading (Phrase.cases depth) self.old.rest.now self.new.rest.now result }
         ensures shorter { length self.new.rest.now ≤ length self.old.rest.now }
     {
         let mut cases = Items::new(alloc);
@@ -283,6 +296,7 @@ impl Reader<'_> {
 
     #[cycle(read)]
     fn case(&mut self, alloc: Global, depth: u32) -> Result<Case, Failed>
+        ensures reads { Reading (Phrase.case_item depth) self.old.rest.now self.new.rest.now result }
         ensures shorter { length self.new.rest.now ≤ length self.old.rest.now }
     {
         self.rest = past_paren(self.rest);
@@ -294,6 +308,7 @@ impl Reader<'_> {
     // patterns with `|` between them, up to the `)`
     #[cycle(read)]
     fn patterns(&mut self, alloc: Global, depth: u32) -> Result<Words, Failed>
+        ensures reads { Reading (Phrase.patterns depth) self.old.rest.now self.new.rest.now result }
         ensures shorter { length self.new.rest.now ≤ length self.old.rest.now }
     {
         let mut patterns = Items::new(alloc);

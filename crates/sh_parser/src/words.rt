@@ -3,6 +3,8 @@
 ghost use Rattle.std.specs.Prelude.{◌≡◌, ◌≤◌, ◌<◌, ◌+◌, ◌++◌, ◌∷◌, [], length, IsTrue, not, OnOk, MatchResult, true, false};
 ghost use Rattle.sh_parser.specs.Words.{is_quoted, is_quoted_braces, is_arithmetic, stops, may_end, stops_at, role_of, backslash, escapes, shape_of, digit, grouped};
 ghost use Rattle.sh_parser.specs.Modes.{is_double};
+ghost use Rattle.sh_parser.specs.Grammar.{Phrase};
+ghost use Rattle.sh_parser.specs.Reading.{Reading, Escapes, Closes};
 
 use crate::SyntaxKind;
 use crate::braces::{
@@ -275,6 +277,7 @@ fn parenthesised(alloc: Global, inner: Word) -> Result<Word, Failed>
 impl Reader<'_> {
     // what stands in single quotes, after the opening one
     fn single(&mut self, alloc: Global) -> Result<Word, Failed>
+        ensures reads { Reading (Phrase.single) self.old.rest.now self.new.rest.now result }
         ensures shorter { length self.new.rest.now ≤ length self.old.rest.now }
     {
         let mut parts = Items::new(alloc);
@@ -301,6 +304,7 @@ impl Reader<'_> {
 
     // the byte behind a `\`
     fn escaped(&mut self, alloc: Global) -> Result<Word, Failed>
+        ensures escapes { Escapes self.old.rest.now self.new.rest.now result }
         ensures shorter { length self.new.rest.now ≤ length self.old.rest.now }
     {
         match first(self.rest) {
@@ -318,6 +322,7 @@ impl Reader<'_> {
     /// The parts up to what ends them in this mode.
     #[cycle(read)]
     pub fn parts(&mut self, alloc: Global, mode: Mode, depth: u32) -> Result<Word, Failed>
+        ensures reads { Reading (Phrase.parts mode depth) self.old.rest.now self.new.rest.now result }
         ensures shorter { length self.new.rest.now ≤ length self.old.rest.now }
     {
         let mut parts = Items::new(alloc);
@@ -334,6 +339,7 @@ impl Reader<'_> {
     /// A part that stands at the front of such parts.
     #[cycle(read)]
     pub fn piece(&mut self, alloc: Global, mode: Mode, depth: u32) -> Result<Word, Failed>
+        ensures reads { Reading (Phrase.piece mode depth) self.old.rest.now self.new.rest.now result }
         ensures shorter { length self.new.rest.now ≤ length self.old.rest.now }
         ensures strict { OnOk result (length self.new.rest.now < length self.old.rest.now) }
     {
@@ -387,6 +393,7 @@ impl Reader<'_> {
     #[cycle(read)]
     fn dollar(&mut self, alloc: Global, quoted: bool, depth: u32) -> Result<Part, Failed>
         requires { 0 < length self.old.rest.now }
+        ensures reads { Reading (Phrase.dollar quoted depth) self.old.rest.now self.new.rest.now result }
         ensures shorter { length self.new.rest.now ≤ length self.old.rest.now }
         ensures strict { OnOk result (length self.new.rest.now < length self.old.rest.now) }
     {
@@ -420,6 +427,7 @@ impl Reader<'_> {
     #[cycle(read)]
     fn braces(&mut self, alloc: Global, quoted: bool, depth: u32) -> Result<Part, Failed>
         requires { 0 < length self.old.rest.now }
+        ensures reads { Reading (Phrase.braces quoted depth) self.old.rest.now self.new.rest.now result }
         ensures shorter { length self.new.rest.now ≤ length self.old.rest.now }
         ensures strict { OnOk result (length self.new.rest.now < length self.old.rest.now) }
     {
@@ -457,6 +465,7 @@ impl Reader<'_> {
     #[cycle(read)]
     fn substitution(&mut self, alloc: Global, quoted: bool, depth: u32) -> Result<Part, Failed>
         requires { 0 < length self.old.rest.now }
+        ensures reads { Reading (Phrase.substitution quoted depth) self.old.rest.now self.new.rest.now result }
         ensures shorter { length self.new.rest.now ≤ length self.old.rest.now }
         ensures strict { OnOk result (length self.new.rest.now < length self.old.rest.now) }
     {
@@ -481,7 +490,9 @@ impl Reader<'_> {
     }
 
     // goes past `))`
+    #[tactic(auto, unfolding(crate::specs::Grammar::closed))]
     fn close_arithmetic(&mut self) -> Result<(), Failed>
+        ensures closes { Closes self.old.rest.now self.new.rest.now result }
         ensures shorter { length self.new.rest.now ≤ length self.old.rest.now }
     {
         let second = joined(tail(self.rest));

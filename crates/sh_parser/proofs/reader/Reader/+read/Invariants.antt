@@ -1,57 +1,78 @@
-use Rattle.std.proofs.Common.{◌≤◌, ◌+◌, ◌*◌, length}
+use Rattle.std.proofs.Common.{◌≤◌, ◌+◌, ◌*◌, ◌++◌, false, length}
+use Rattle.sh_tree.specs.declared.AndOr.{roll-AndOr}
+use Rattle.sh_parser.specs.Grammar.{list, and_or, links, commands, simple, branches, words, cases, patterns, parts}
+use Rattle.sh_parser.proofs.Steps.{Leads}
 use Rattle.sh_parser.specs.Modes.{rank}
 use Rattle.sh_parser.proofs.reader.Reader.+read.Given as goal
 
 abbrev pub invariant-list-items : goal.invariant-list-items
-invariant-list-items l = length l.self.rest.now ≤ length l.fn.self.rest.now
+invariant-list-items l =
+    (length l.self.rest.now ≤ length l.fn.self.rest.now)
+    × Leads (list l.depth) (list l.depth) l.fn.self.rest.now l.self.rest.now (λ xs. l.all ++ xs)
 
 abbrev pub decreases-list-items : goal.decreases-list-items
 decreases-list-items l = length l.self.rest.now
 
 abbrev pub invariant-and_or-links : goal.invariant-and_or-links
-invariant-and_or-links l = length l.self.rest.now ≤ length l.fn.self.rest.now
+invariant-and_or-links l =
+    (length l.self.rest.now ≤ length l.fn.self.rest.now)
+    × Leads (and_or l.depth) (links l.depth) l.fn.self.rest.now l.self.rest.now (λ xs. roll-AndOr (record { first = l.first; rest = l.rest ++ xs }))
 
 abbrev pub decreases-and_or-links : goal.decreases-and_or-links
 decreases-and_or-links l = length l.self.rest.now
 
 abbrev pub invariant-commands-commands : goal.invariant-commands-commands
-invariant-commands-commands l = length l.self.rest.now ≤ length l.fn.self.rest.now
+invariant-commands-commands l =
+    (length l.self.rest.now ≤ length l.fn.self.rest.now)
+    × Leads (commands l.depth) (commands l.depth) l.fn.self.rest.now l.self.rest.now (λ xs. l.commands ++ xs)
 
 abbrev pub decreases-commands-commands : goal.decreases-commands-commands
 decreases-commands-commands l = length l.self.rest.now
 
 abbrev pub invariant-simple-pieces : goal.invariant-simple-pieces
-invariant-simple-pieces l = length l.self.rest.now ≤ length l.fn.self.rest.now
+invariant-simple-pieces l =
+    (length l.self.rest.now ≤ length l.fn.self.rest.now)
+    × Leads (simple false l.depth) (simple l.seen l.depth) l.fn.self.rest.now l.self.rest.now (λ v. (l.assigns ++ v.0, l.words ++ v.1, l.redirs ++ v.2))
 
 abbrev pub decreases-simple-pieces : goal.decreases-simple-pieces
 decreases-simple-pieces l = length l.self.rest.now
 
 abbrev pub invariant-branches-arms : goal.invariant-branches-arms
-invariant-branches-arms l = length l.self.rest.now ≤ length l.fn.self.rest.now
+invariant-branches-arms l =
+    (length l.self.rest.now ≤ length l.fn.self.rest.now)
+    × Leads (branches l.depth) (branches l.depth) l.fn.self.rest.now l.self.rest.now (λ v. (l.arms ++ v.0, v.1))
 
 abbrev pub decreases-branches-arms : goal.decreases-branches-arms
 decreases-branches-arms l = length l.self.rest.now
 
 abbrev pub invariant-words-words : goal.invariant-words-words
-invariant-words-words l = length l.self.rest.now ≤ length l.fn.self.rest.now
+invariant-words-words l =
+    (length l.self.rest.now ≤ length l.fn.self.rest.now)
+    × Leads (words l.depth) (words l.depth) l.fn.self.rest.now l.self.rest.now (λ xs. l.words ++ xs)
 
 abbrev pub decreases-words-words : goal.decreases-words-words
 decreases-words-words l = length l.self.rest.now
 
 abbrev pub invariant-cases-cases : goal.invariant-cases-cases
-invariant-cases-cases l = length l.self.rest.now ≤ length l.fn.self.rest.now
+invariant-cases-cases l =
+    (length l.self.rest.now ≤ length l.fn.self.rest.now)
+    × Leads (cases l.depth) (cases l.depth) l.fn.self.rest.now l.self.rest.now (λ xs. l.cases ++ xs)
 
 abbrev pub decreases-cases-cases : goal.decreases-cases-cases
 decreases-cases-cases l = length l.self.rest.now
 
 abbrev pub invariant-patterns-patterns : goal.invariant-patterns-patterns
-invariant-patterns-patterns l = length l.self.rest.now ≤ length l.fn.self.rest.now
+invariant-patterns-patterns l =
+    (length l.self.rest.now ≤ length l.fn.self.rest.now)
+    × Leads (patterns l.depth) (patterns l.depth) l.fn.self.rest.now l.self.rest.now (λ xs. l.patterns ++ xs)
 
 abbrev pub decreases-patterns-patterns : goal.decreases-patterns-patterns
 decreases-patterns-patterns l = length l.self.rest.now
 
 abbrev pub invariant-parts-parts : goal.invariant-parts-parts
-invariant-parts-parts l = length l.self.rest.now ≤ length l.fn.self.rest.now
+invariant-parts-parts l =
+    (length l.self.rest.now ≤ length l.fn.self.rest.now)
+    × Leads (parts l.mode l.depth) (parts l.mode l.depth) l.fn.self.rest.now l.self.rest.now (λ xs. l.parts ++ xs)
 
 abbrev pub decreases-parts-parts : goal.decreases-parts-parts
 decreases-parts-parts l = length l.self.rest.now
