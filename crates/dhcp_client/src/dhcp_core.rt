@@ -93,7 +93,8 @@ impl DhcpCore {
         requires { length platform.now ≤ 200 }
         ensures client { IfOk result (λ client. client ≡ new_waiter dhcp (none_offered mac platform.now round)) }
         ensures comes_to { IfOk result (λ client. (arrivals : List TimedArrival)
-            → ComesTo dhcp_acts found_of client arrivals (outcome dhcp (none_offered mac platform.now round) arrivals)) }
+            → ComesTo dhcp_acts found_of client arrivals
+            (outcome dhcp (none_offered mac platform.now round) arrivals)) }
         ensures places { IfOk result (λ client. (arrivals : List TimedArrival)
             → Leases (none_offered mac platform.now round) arrivals
             (outcome dhcp (none_offered mac platform.now round) arrivals).found) }

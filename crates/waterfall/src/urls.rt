@@ -102,7 +102,8 @@ pub(crate) fn push_url(alloc: Global, list: &mut Listing, url: Option<&[u8]>) ->
 
 /// Puts the boot file of a lease at the end, where there is one.
 fn push_boot_file(alloc: Global, list: &mut Listing, lease: &Lease) -> Result<(), Memory>
-    ensures { OnOk result (list.new ≡ fold with_new list.old (boot_file lease.now.file (tftp_server (terms_of lease.now)))) }
+    ensures { OnOk result (list.new
+        ≡ fold with_new list.old (boot_file lease.now.file (tftp_server (terms_of lease.now)))) }
 {
     let Some(file) = &lease.file else {
         return Ok(());
