@@ -19,7 +19,8 @@ use Rattle.sh_parser.specs.Reading.{Answers, AnswersSimple, AnswersBranches, Ans
 use Rattle.sh_parser.proofs.Steps.{exit, missing, full, strayed, built, Leads, step, ends, append_nil, more, joins, no_depth, some_depth, exit_simple, full_simple, exit_branches, missing_branches, full_branches, exit_form, missing_form, opened_by, each_way, is_true, moves, starts}
 use Rattle.sh_parser.proofs.Parts.{links_none, links_breaks, links_leads, stuck_list, stuck_words, stuck_parens, braces_text, dollar_text, parens_text, each_text, simple_whole, assigns_unseen}
 use Rattle.sh_parser.proofs.WordRules.{braces_change, braces_change_f6, braces_deep, braces_length, braces_malformed, braces_open, braces_plain, dollar_brace, dollar_brace_f2, dollar_digit, dollar_itself, dollar_left_out, dollar_name, dollar_paren, dollar_paren_f2, dollar_sign, parts_end, parts_more, parts_more_f2, parts_more_f3, piece_deep, piece_dollar, piece_dollar_f2, piece_double, piece_double_f2, piece_escape, piece_escape_stuck, piece_left_out, piece_none, piece_nul, piece_open, piece_paren, piece_paren_f3, piece_plain, piece_single, piece_single_f2, substitution_arith, substitution_arith_f3, substitution_arith_stuck, substitution_deep, substitution_list, substitution_list_f3, substitution_stray, word_goes}
-use Rattle.sh_parser.proofs.CommandRules.{after_ends, after_more, after_more_f4, after_stuck, and_or_of, and_or_of_f0, and_or_of_f1, assign_of, assign_of_f2, assign_of_n1, branches_last, branches_last_f4, branches_more, branches_more_f0, branches_more_f2, branches_more_f4, branches_more_n1, case_of, case_of_f1, case_of_f2, cases_end, cases_last, cases_last_n4, cases_more, cases_more_f2, cases_more_f4, choice_of, choice_of_f2, choice_of_f5, choice_of_n4, choice_stray, command_enclosed, command_enclosed_f1, command_function, command_function_f3, command_nothing, command_simple, command_simple_f3, commands_of, commands_of_f0, commands_of_f1, compound_deep, compound_of, do_group_of, do_group_of_f1, do_group_of_n0, do_group_of_n2, each_of, each_of_f3, each_of_f4, each_stray, each_words_in, each_words_in_f3, each_words_none, each_words_semicolon, each_words_stuck, enclosed_of, enclosed_of_f0, enclosed_of_f1, enclosed_stuck, form_case, form_case_f1, form_case_n0, form_for, form_for_f1, form_for_n0, form_group, form_group_f1, form_group_n0, form_group_n2, form_if, form_if_f1, form_if_n0, form_nothing, form_subshell, form_subshell_f1, form_subshell_n0, form_subshell_n2, form_until, form_until_f1, form_until_n0, form_while, form_while_f1, form_while_n0, function_of, function_of_f5, function_of_n2, function_stray, list_ends, list_f, list_item, list_item_f, otherwise_else, otherwise_else_f1, otherwise_else_n2, otherwise_fi, otherwise_fi_n1, patterns_last, patterns_last_f1, patterns_more, patterns_more_f6, patterns_stray, patterns_stuck, piped_end, piped_more, piped_more_f3, pipeline_not, pipeline_not_f2, pipeline_plain, pipeline_plain_f1, simple_assign, simple_assign_f4, simple_assign_f5, simple_end, simple_redir, simple_redir_f2, simple_redir_f3, simple_word, simple_word_f4, simple_word_f5, some_list_none, some_list_some, some_list_some_f2, turns_of, turns_of_f0, turns_of_f1, words_end, words_more, words_more_f2, words_more_f3}
+use Rattle.sh_parser.proofs.CommandRules.{after_ends, after_more, after_more_f4, after_stuck, and_or_of, and_or_of_f0, and_or_of_f1, assign_of, assign_of_f2, assign_of_n1, command_enclosed, command_enclosed_f1, command_function, command_function_f3, command_nothing, command_simple, command_simple_f3, commands_of, commands_of_f0, commands_of_f1, enclosed_of, enclosed_of_f0, enclosed_of_f1, enclosed_stuck, function_of, function_of_f5, function_of_n2, function_stray, list_ends, list_f, list_item, list_item_f, piped_end, piped_more, piped_more_f3, pipeline_not, pipeline_not_f2, pipeline_plain, pipeline_plain_f1, simple_assign, simple_assign_f4, simple_assign_f5, simple_end, simple_redir, simple_redir_f2, simple_redir_f3, simple_word, simple_word_f4, simple_word_f5, some_list_none, some_list_some, some_list_some_f2}
+use Rattle.sh_parser.proofs.CompoundRules.{branches_last, branches_last_f4, branches_more, branches_more_f0, branches_more_f2, branches_more_f4, branches_more_n1, case_of, case_of_f1, case_of_f2, cases_end, cases_last, cases_last_n4, cases_more, cases_more_f2, cases_more_f4, choice_of, choice_of_f2, choice_of_f5, choice_of_n4, choice_stray, compound_deep, compound_of, do_group_of, do_group_of_f1, do_group_of_n0, do_group_of_n2, each_of, each_of_f3, each_of_f4, each_stray, each_words_in, each_words_in_f3, each_words_none, each_words_semicolon, each_words_stuck, form_case, form_case_f1, form_case_n0, form_for, form_for_f1, form_for_n0, form_group, form_group_f1, form_group_n0, form_group_n2, form_if, form_if_f1, form_if_n0, form_nothing, form_subshell, form_subshell_f1, form_subshell_n0, form_subshell_n2, form_until, form_until_f1, form_until_n0, form_while, form_while_f1, form_while_n0, otherwise_else, otherwise_else_f1, otherwise_else_n2, otherwise_fi, otherwise_fi_n1, patterns_last, patterns_last_f1, patterns_more, patterns_more_f6, patterns_stray, patterns_stuck, turns_of, turns_of_f0, turns_of_f1, words_end, words_more, words_more_f2, words_more_f3}
 use Rattle.sh_parser.proofs.reader.Reader.+read.Goals as goal
 
 pub and_or-returns-in_err-first-clause-reads : goal.and_or-returns-in_err-first-clause-reads
