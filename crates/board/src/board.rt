@@ -10,7 +10,8 @@ ghost use Rattle.soundness.specs.Judgement.{HoldsOnie, IsUnsound};
 ghost use Rattle.cuts.specs.Law.{IsStart};
 ghost use Rattle.cuts.specs.Spans.{EndsSettled, Opens, Spans, state_of};
 ghost use Rattle.bd_dev.specs.Runs.{Continues, WritesAtMost};
-ghost use Rattle.storage_model.specs.Copies.{AgreesOffTable, TouchesLesser};
+ghost use Rattle.storage_model.specs.Copies.{AgreesOffTable, ReadsBoth, TouchesLesser, WritesNothing};
+ghost use Rattle.gpt_copy.specs.declared.table.Table.{Table};
 ghost use Rattle.cuts.specs.States.{nothing};
 ghost use Rattle.board.specs.Held.{IsLive, Keeps, disk_of, value_of};
 ghost use Rattle.board.specs.Journal.{total_of};
@@ -46,8 +47,8 @@ pub struct Board<'a, P: Plant> {
 impl<'a, P: Plant> Board<'a, P> {
     /// Readies a sound board, see [`prepare`], and gives it with no effects yet.
     ///
-    /// Of the plant of a board that was refused no clause can speak here: who needs that calls [`prepare`], which speaks
-    /// of it at every answer, and then [`Board::over`].
+    /// Of the plant of a board that was refused no clause speaks here: who needs that calls [`prepare`], which speaks of
+    /// it at every answer, and then [`Board::over`].
     ///
     /// `NotSound` with the first test that fails, in the order of [`SoundKind`](soundness::SoundKind). `Fault` where the
     /// plant fails. `Memory` where that is wanting.
@@ -68,6 +69,9 @@ impl<'a, P: Plant> Board<'a, P> {
         ensures kept { (P.view plant.old).tells → IfOk result (λ board.
             AgreesOffTable ((P.view plant.old).size Disk) (P.view plant.old).reads (P.view board.plant.now).reads) }
         ensures lesser { (P.view plant.old).tells → IfOk result (λ board. TouchesLesser (P.view plant.old) (P.view board.plant.now)) }
+        ensures agreeing { (P.view plant.old).tells → (t : Table)
+            → ReadsBoth ((P.view plant.old).size Disk) ((P.view plant.old).reads Disk) t
+            → IfOk result (λ board. WritesNothing (P.view plant.old) (P.view board.plant.now)) }
         ensures wears { (P.view plant.old).tells → IfOk result (λ board. WritesAtMost Disk 33 (P.view plant.old) (P.view board.plant.now)) }
         ensures read { (P.view plant.old).tells
             → IfOk result (λ board. IsReadOf (P.view plant.old) (record { table = board.held.table; vars = board.held.vars })) }
