@@ -231,7 +231,7 @@ to_front (Rattle.sh_expand.specs.Pattern.Matches.byte h m) = byte h (to_front m)
 to_front (Rattle.sh_expand.specs.Pattern.Matches.star_ends m) = star_ends (to_front m)
 to_front (Rattle.sh_expand.specs.Pattern.Matches.star_goes m) = star_goes (to_front m)
 
-of_front : {is : List Item} {t r : Text} → Begins is t r → r ≡ [] → Matches is t
+pub of_front : {is : List Item} {t r : Text} → Begins is t r → r ≡ [] → Matches is t
 of_front {t = t} ends e = subst (λ (x : Text). Matches [] x) (sym e) Rattle.sh_expand.specs.Pattern.Matches.ends
 of_front (byte h m) e = Rattle.sh_expand.specs.Pattern.Matches.byte h (of_front m e)
 of_front (star_ends m) e = Rattle.sh_expand.specs.Pattern.Matches.star_ends (of_front m e)

@@ -17,7 +17,7 @@ pub record Progress (ifs : Text) (most : ℕ) (whole rest : Pieces) (fields : Li
 pub begins : (ifs : Text) (most : ℕ) (whole : Pieces) → Progress ifs most whole whole []
 begins ifs most whole = record { on = λ others s. s; long = λ h. h; back = λ h. h }
 
-append_nil : {A : Type 0} (xs : List A) → xs ++ [] ≡ xs
+pub append_nil : {A : Type 0} (xs : List A) → xs ++ [] ≡ xs
 append_nil [] = refl
 append_nil (x ∷ xs) = ap (λ l. x ∷ l) (append_nil xs)
 

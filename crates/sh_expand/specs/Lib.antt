@@ -1,4 +1,5 @@
 pub mod Cut
+pub mod CutEnd
 pub mod Environment
 pub mod Faults
 pub mod Fields

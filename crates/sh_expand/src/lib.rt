@@ -2,6 +2,7 @@
 //! that [`matches`] tries on a text, and [`split_fields`] (POSIX.1-2017, Shell Command Language, 2.5, 2.6, 2.13).
 #![tactic(auto)]
 
+mod back;
 mod cut;
 mod env;
 mod fault;
@@ -9,6 +10,7 @@ mod fields;
 mod item;
 mod matching;
 
+pub use back::ends_are_fronts;
 pub use cut::{cut_front, whole_front};
 pub use env::{Env, Flags, VARIABLES_LIMIT, arithmetic};
 pub use fault::ExpandFault;
