@@ -2,12 +2,12 @@
 //!
 //! `disk.img` and `flash.img` are the disk and the flash, `eeprom.bin` is the identity EEPROM, the folders of `media/`
 //! are the volumes of local media, `net.txt` is the script of the network, and the console is standard output. `net.trace`
-//! takes what is sent; a call of `discover` empties it first. The exit status is the number of the status that the top
-//! call answers.
+//! takes what is sent; words that use it empty it first. The exit status is the number of the status that the top call
+//! answers.
 #![tactic(auto)]
 
 use bd_file::{FileEeprom, FilePlant, FileSink, FileSource, FolderMedia, OutSink};
-use onie_cli::{Status, onie};
+use onie_cli::{Status, is_traced, onie};
 use std::env;
 use std::io::{self, ErrorKind};
 use std::process::ExitCode;
@@ -20,14 +20,6 @@ fn words(rt: &(impl Env + AllocGlobal)) -> io::Result<Vec<String>> {
         words.push(word)?;
     }
     Ok(words)
-}
-
-/// Whether the words are `discover` alone.
-fn is_discover(words: &[String]) -> bool {
-    match words {
-        [word] => word.as_str() == "discover",
-        _ => false,
-    }
 }
 
 fn run(rt: &(impl Env + Files + Print + AllocGlobal + Clone + Drop)) -> Status {
@@ -44,7 +36,7 @@ fn run(rt: &(impl Env + Files + Print + AllocGlobal + Clone + Drop)) -> Status {
     let mut script = FileSource::new(rt, "net.txt");
     let mut console = OutSink::new(rt);
     let mut trace = FileSink::new(rt, "net.trace");
-    if is_discover(&words) {
+    if is_traced(&words) {
         trace.make_anew();
     }
     onie(

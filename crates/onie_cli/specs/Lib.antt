@@ -1,13 +1,6 @@
-pub mod Status
 pub mod Words
-pub mod Refusal
-pub mod Board
-pub mod ChangeVariable
-pub mod Console
-pub mod Discover
-pub mod ShowStatus
-pub mod Fields
+pub mod Status
 pub mod Eeprom
 pub mod EepromSet
-pub mod Script
-pub mod Asking
+pub mod Set
+pub mod Commands

@@ -1,0 +1,10 @@
+pub mod Exit
+pub mod Refusal
+pub mod Console
+pub mod Devices
+pub mod Course
+pub mod Running
+pub mod Identity
+pub mod Script
+pub mod Asking
+pub mod Discover
