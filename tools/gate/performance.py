@@ -45,6 +45,11 @@ SCRIPTS = {
 }
 """The scripts that are measured: how each begins, and what comes again and again behind it."""
 
+INSTALLER_SIZES = (MIB // 16, MIB // 4, MIB)
+
+INSTALLERS = {"lines `:`": b":\n", "`(`": b"(", "one word": b"a"}
+"""The installers' scripts that are measured: what comes in each again and again."""
+
 EXAMPLES = """\
 A run's time is the least user time of the runs; its peak is the most memory that it had at once, of
 the greatest run. A ratio is to the row before: of an input twice as large, 2 is linear.
@@ -52,6 +57,7 @@ the greatest run. A ratio is to the row before: of an input twice as large, 2 is
 examples:
   python3 tools performance
   python3 tools performance --runs 5 --onie /tmp/onie
+  python3 tools performance --probe crates/sh_probe/out/sh_probe
   python3 tools performance --bodies "$PWD/crates/fetch_probe/out/fetch_probe" tftp://10.0.0.1/img
 """
 
@@ -70,15 +76,19 @@ class Cost:
 
 @dataclass(frozen=True)
 class Case:
-    """A command that is measured in a folder, and how large its input is, in bytes or in pieces."""
+    """A command that is measured in a folder, the size of its input, and how it may end.
+
+    The size is one of bytes or of pieces.
+    """
 
     size: int
     folder: Path
     command: list[str]
+    statuses: tuple[int, ...] = (0,)
 
 
 def cost_of(case: Case) -> Cost:
-    """What one run took, which must end with 0. What it prints is dropped."""
+    """What one run took, which must end as its case says. What it prints is dropped."""
     with subprocess.Popen(
         case.command,
         cwd=case.folder,
@@ -87,7 +97,7 @@ def cost_of(case: Case) -> Cost:
     ) as run:
         _, status, usage = os.wait4(run.pid, 0)
         run.returncode = os.waitstatus_to_exitcode(status)
-    if run.returncode != 0:
+    if run.returncode not in case.statuses:
         raise MeasureError(f"{' '.join(case.command)!r} ended with {run.returncode}")
     return Cost(usage.ru_utime, usage.ru_maxrss * 1024)
 
@@ -218,6 +228,20 @@ def body_table(folder: Path, command: list[str], runs: int) -> Iterator[str]:
     yield from rows("one body", cases, runs)
 
 
+def installer_case(folder: Path, probe: Path, piece: bytes, size: int) -> Case:
+    """`sh_probe` over a script of a size, which may have a fault."""
+    path = folder / str(len(os.listdir(folder)))
+    return Case(write_repeated(path, b"", piece, size), folder, [str(probe), str(path)], (0, 1))
+
+
+def installer_table(folder: Path, probe: Path, runs: int) -> Iterator[str]:
+    """The table of `sh_probe` over installers' scripts."""
+    yield from heading("Script")
+    for name, piece in INSTALLERS.items():
+        cases = [installer_case(folder, probe, piece, size) for size in INSTALLER_SIZES]
+        yield from rows(name, cases, runs)
+
+
 def in_new_folder(table: Callable[[Path], Iterator[str]]) -> None:
     """Prints a table, row by row, whose boards are made in a folder that is then taken away."""
     with tempfile.TemporaryDirectory() as folder:
@@ -233,6 +257,9 @@ def act(options: argparse.Namespace) -> int:
         raise Refusal("--runs wants at least 1")
     if options.bodies:
         in_new_folder(lambda folder: body_table(folder, options.bodies, options.runs))
+    elif options.probe:
+        probe = options.probe.absolute()
+        in_new_folder(lambda folder: installer_table(folder, probe, options.runs))
     else:
         onie = options.onie.absolute()
         for table in (script_table, volumes_table, served_table):
@@ -247,6 +274,9 @@ def main(words: list[str]) -> int:
     built = Path(os.environ.get("ONIE") or TOP / "crates/onie/out/onie")
     line.add_argument("--onie", metavar="FILE", type=Path, default=built, help="the program")
     line.add_argument("--runs", metavar="N", type=int, default=3, help="runs of each, by default 3")
+    line.add_argument(
+        "--probe", metavar="FILE", type=Path, help="the table of this sh_probe over scripts instead"
+    )
     line.add_argument(
         "--bodies",
         metavar="WORD",

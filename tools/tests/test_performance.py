@@ -10,7 +10,16 @@ from pathlib import Path
 from unittest.mock import Mock, patch
 
 from gate import performance
-from gate.performance import BODY_SIZES, MIB, SCRIPTS, SCRIPT_SIZES, Case, Cost
+from gate.performance import (
+    BODY_SIZES,
+    INSTALLER_SIZES,
+    INSTALLERS,
+    MIB,
+    SCRIPT_SIZES,
+    SCRIPTS,
+    Case,
+    Cost,
+)
 
 LONGEST = 16_777_216
 """The most bytes of a script."""
@@ -126,6 +135,15 @@ class Tables(PerformanceTest):
         status, text, said = self.run_main("--runs=1", "--bodies", sys.executable, "-c", program)
         self.assertEqual((status, said), (0, ""))
         self.assertEqual(len(text.splitlines()), 2 + len(BODY_SIZES))
+
+    def test_installers(self) -> None:
+        """A script with a fault is measured too."""
+        probe = self.folder / "probe"
+        probe.write_text('#!/bin/sh\n[ -f "$1" ] || exit 3\nexit 1\n')
+        probe.chmod(0o755)
+        status, text, said = self.run_main("--runs=1", "--probe", str(probe))
+        self.assertEqual((status, said), (0, ""))
+        self.assertEqual(len(text.splitlines()), 2 + len(INSTALLERS) * len(INSTALLER_SIZES))
 
     def test_refused_words(self) -> None:
         for words, why in (

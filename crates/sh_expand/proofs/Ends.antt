@@ -66,7 +66,7 @@ pub either_way : (items : List Item) (text : Text) → Matches items text ↔ Ma
 either_way items text = (reversed, back_again items text)
 
 -- what a front leaves
-front_of : {is : List Item} {t r : Text} → Begins is t r → (f : Text) × (t ≡ f ++ r) × Matches is f
+pub front_of : {is : List Item} {t r : Text} → Begins is t r → (f : Text) × (t ≡ f ++ r) × Matches is f
 front_of ends = ([], refl, Rattle.sh_expand.specs.Pattern.Matches.ends)
 front_of (byte {c = c} h m) = let i = front_of m in (c ∷ i.0, ap (λ (x : Text). c ∷ x) i.1, Rattle.sh_expand.specs.Pattern.Matches.byte h i.2)
 front_of (star_ends m) = let i = front_of m in (i.0, i.1, Rattle.sh_expand.specs.Pattern.Matches.star_ends i.2)

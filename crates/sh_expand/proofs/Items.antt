@@ -1,6 +1,6 @@
 -- Sets and items, one piece after the other.
-use Rattle.std.proofs.Common.{◌≡◌, ℕ, zero, suc, Bool, true, false, ◌||◌, if◌then◌else◌, refl, sym, ap, ◌∙◌, List, [], ◌∷◌, drop, Option, Some, None}
-use Rattle.sh_expand.specs.Pattern.{Pieces, is_unquoted, within, range_end, has, Item, item_at, items_from, items_of}
+use Rattle.std.proofs.Common.{◌≡◌, ℕ, zero, suc, Bool, true, false, ◌||◌, if◌then◌else◌, refl, ap, [], ◌∷◌, drop, Some, None}
+use Rattle.sh_expand.specs.Pattern.{Pieces, is_unquoted, within, range_end, has, items_from, items_of}
 
 or_false : (b : Bool) → b ≡ (b || false)
 or_false true = refl

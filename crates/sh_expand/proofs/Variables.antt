@@ -1,7 +1,7 @@
 -- Variables: where a name's pair stands, and how many bytes all have.
-use Rattle.std.proofs.Common.{◌≡◌, ◌≢◌, ◌<◌, ◌≤◌, ◌+◌, ◌-◌, ◌^◌, ℕ, zero, suc, min, Bool, true, false, not, if◌then◌else◌, refl, sym, subst, ap, ◌∙◌, arith, List, [], ◌∷◌, ◌++◌, length, take, drop, set, get_or, add-one, ℤ, Result, Ok, Err, ◌↔◌, IsErr}
+use Rattle.std.proofs.Common.{◌≡◌, ◌<◌, ◌+◌, ℕ, zero, suc, Bool, true, false, not, if◌then◌else◌, refl, sym, subst, ap, ◌∙◌, arith, [], ◌∷◌, ◌++◌, length, take, drop, set, get_or, ℤ, Result, Ok, Err, ◌↔◌, IsErr}
 use Rattle.std.proofs.Math.Numerals.{one-add}
-use Rattle.std.proofs.lemmas.List.{take_more, get_or_read}
+use Rattle.std.proofs.lemmas.List.{take_more}
 use Rattle.std.proofs.lemmas.Slice.Eq.{bytes_eq-Decides}
 use Rattle.std.specs.List.{prefix_len, remove}
 use Rattle.std.specs.Str.{bytes_eq}

@@ -1,5 +1,5 @@
 -- Changes of variables.
-use Rattle.std.specs.Prelude.{ℕ, ◌+◌, not, if◌then◌else◌, List, [], ◌∷◌, length, false, filter}
+use Rattle.std.specs.Prelude.{ℕ, ◌+◌, not, if◌then◌else◌, [], ◌∷◌, length, false, filter}
 use Rattle.std.specs.Str.{bytes_eq}
 use Rattle.sh_arith.specs.Text.{Text}
 use Rattle.sh_arith.specs.Names.{Variables}

@@ -1,5 +1,5 @@
 -- What calls that may lack memory answer.
-use Rattle.std.specs.Prelude.{◌≡◌, ◌<◌, ◌≤◌, ℕ, List, length, Result, Ok, Err}
+use Rattle.std.specs.Prelude.{◌≡◌, ◌<◌, ◌≤◌, ℕ, length, Result, Ok, Err}
 use Rattle.sh_expand.specs.declared.fault.ExpandFault.{ExpandFault}
 use Rattle.sh_expand.specs.declared.fault.ExpandFault.TheVariants.{Bad, TextLong, Memory}
 use Rattle.sh_expand.specs.Pattern.{Text}

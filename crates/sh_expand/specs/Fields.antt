@@ -1,5 +1,5 @@
 -- Fields: POSIX.1-2017, Shell Command Language, 2.6.5.
-use Rattle.std.specs.Prelude.{◌≡◌, ◌<◌, ℕ, Bool, true, not, ◌==◌, ◌&&◌, ◌||◌, if◌then◌else◌, List, [], ◌∷◌, map, drop, length}
+use Rattle.std.specs.Prelude.{◌≡◌, ◌<◌, ℕ, Bool, not, ◌==◌, ◌&&◌, ◌||◌, if◌then◌else◌, List, [], ◌∷◌, map, drop, length}
 use Rattle.std.specs.List.{list_any, take_while, prefix_len}
 use Rattle.sh_expand.specs.Pattern.{Text, Pieces}
 

@@ -1,6 +1,5 @@
 -- Patterns, and the texts that they match: POSIX.1-2017, Shell Command Language, 2.13, without classes.
-use Rattle.std.specs.Prelude.{◌≡◌, ℕ, zero, suc, ◌+◌, Bool, true, false, not, ◌==◌, nat_le, ◌&&◌, ◌||◌, if◌then◌else◌, List, [], ◌∷◌, take, drop, position, Option, Some, None, option_map}
-use Rattle.std.specs.Borrow.{Bor}
+use Rattle.std.specs.Prelude.{◌≡◌, ℕ, zero, suc, ◌+◌, Bool, true, false, not, ◌==◌, nat_le, ◌&&◌, ◌||◌, if◌then◌else◌, List, [], ◌∷◌, take, position, Option, Some, None, option_map}
 
 abbrev pub Text : Type 0
 Text = List ℕ

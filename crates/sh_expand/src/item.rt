@@ -1,8 +1,11 @@
-//! Patterns, taken apart from the front.
+//! Patterns, taken apart into their items.
 
-ghost use Rattle.std.specs.Prelude.{◌≡◌, ◌∷◌, [], ◌<◌, ◌≤◌, ◌+◌, ◌||◌, ℕ, MatchOption, IfSome, length, position};
+ghost use Rattle.std.specs.Prelude.{◌≡◌, ◌∷◌, [], ◌<◌, ◌≤◌, ◌+◌, ◌||◌, ℕ, MatchOption, IfOk, IfSome, length, map, position};
 ghost use Rattle.sh_expand.specs.Pattern.{is_unquoted, within, has, range_end, closing, set_of, bracket, item_at, items_of, takes};
 ghost use Rattle.sh_expand.specs.Reading.{ReadsMember, Reads, item_of};
+
+use bd_dev::Memory;
+use std::alloc::Global;
 
 /// What a pattern has at a place.
 #[derive(Clone, Copy)]
@@ -179,4 +182,19 @@ pub(crate) fn first_item(pattern: &[(u8, bool)]) -> Option<(Item<'_>, &[(u8, boo
     let (piece, rest) = first(pattern)?;
     let (item, taken) = item_at(piece, rest);
     Some((item, rest.split_at(taken).1))
+}
+
+/// The items of a pattern, from the front, or `Memory`.
+pub(crate) fn items(alloc: Global, pattern: &[(u8, bool)]) -> Result<Vec<Item<'_>>, Memory>
+    ensures { IfOk result (λ all. map item_of all.items ≡ items_of pattern.now) }
+{
+    let mut all = Vec::new(alloc);
+    let mut rest = pattern;
+    'items: loop {
+        let Some((item, after)) = first_item(rest) else {
+            return Ok(all);
+        };
+        all.push(item)?;
+        rest = after;
+    }
 }

@@ -11,7 +11,7 @@ mod item;
 mod matching;
 
 pub use back::ends_are_fronts;
-pub use cut::{cut_front, whole_front};
+pub use cut::{cut_end, cut_front, whole_front};
 pub use env::{Env, Flags, VARIABLES_LIMIT, arithmetic};
 pub use fault::ExpandFault;
 pub use fields::{TEXT_LIMIT, split_fields};

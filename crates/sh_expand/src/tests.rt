@@ -172,3 +172,26 @@ fn fronts_are_cut(rt: HostRuntime) -> Result<(), Fail> {
     }
     Ok(())
 }
+
+#[test]
+fn ends_are_cut(rt: HostRuntime) -> Result<(), Fail> {
+    let rows: [(&[u8], &[u8], Option<&[u8]>, Option<&[u8]>); 11] = [
+        (b".*", b"a.b.c", Some(b"a.b"), Some(b"a")),
+        (b"X*", b"aXbXc", Some(b"aXb"), Some(b"a")),
+        (b"*", b"abc", Some(b"abc"), Some(b"")),
+        (b"", b"abc", Some(b"abc"), Some(b"abc")),
+        (b"z", b"abc", None, None),
+        (b"c", b"abc", Some(b"ab"), Some(b"ab")),
+        (b"a*b", b"aab", Some(b"a"), Some(b"")),
+        (b"a*a*", b"yaxaxax", Some(b"yax"), Some(b"y")),
+        (b"?", b"", None, None),
+        (b"[!b]", b"ba", Some(b"b"), Some(b"b")),
+        (b"[a-c]\\*", b"xb*", Some(b"x"), Some(b"x")),
+    ];
+    for (text, whole, short, long) in rows {
+        let pattern = pattern(rt.alloc(), text)?;
+        assert!(rt; cut_end(rt.alloc(), &pattern, whole, false)? == short);
+        assert!(rt; cut_end(rt.alloc(), &pattern, whole, true)? == long);
+    }
+    Ok(())
+}

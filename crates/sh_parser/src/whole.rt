@@ -12,17 +12,31 @@ use crate::reader::{Failed, Reader};
 use sh_text::first;
 use sh_tree::List;
 use std::alloc::Global;
+use std::marker::Model;
 
-/// A program: AND-OR lists, one after the other.
+/// A program: AND-OR lists, one after the other, as which contracts see it.
 #[derive(Drop)]
 pub struct Program {
     list: List,
 }
 
+impl Model for Program {
+    ghost use Rattle.std.specs.Prelude.{List};
+    ghost use Rattle.std.specs.Coded.{codes};
+    ghost use Rattle.sh_tree.specs.declared.AndOr.{AndOr};
+    ghost use Rattle.sh_tree.specs.contracts.AndOr as tree;
+
+    ghost Value = { List AndOr };
+
+    ghost view = { λ p. p.list };
+
+    ghost coded = { Prim.hlevel (codes, tree.the_row.coded) };
+}
+
 impl Program {
     /// Its AND-OR lists.
     pub fn list(&self) -> &List
-        ensures { result.now ≡ self.now.list }
+        ensures { result.now ≡ self.now }
     {
         &self.list
     }
@@ -39,7 +53,7 @@ pub const DEPTH: u32 = 64;
 /// Reads a whole text as a program (`program`), or tells which fault comes first in it, with its line (`fault`). It gives
 /// each program (`only`) and the first fault of each faulty text (`exact`), unless memory runs out.
 pub fn parse(alloc: Global, text: &[u8]) -> Result<Program, SyntaxFault>
-    ensures program { IfOk result (λ p. IsProgram text.now p.list) }
+    ensures program { IfOk result (λ p. IsProgram text.now p) }
     ensures only { (tree : List AndOr) → IsProgram text.now tree → IfErr result (λ e. e ≡ SyntaxFault.Memory) }
     ensures fault { (line : ℕ) (kind : SyntaxKind) → result ≡ Err (SyntaxFault.Bad line kind) → IsFault text.now line kind }
     ensures exact { (line : ℕ) (kind : SyntaxKind) → IsFault text.now line kind

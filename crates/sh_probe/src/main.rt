@@ -5,6 +5,10 @@
 //! the file can't be read, the script is too long, or memory runs out.
 #![tactic(auto)]
 
+ghost use Rattle.std.specs.Prelude.{◌≡◌, IfOk};
+ghost use Rattle.std.specs.String.{string_bytes};
+ghost use Rattle.sh_probe.specs.Telling.{kind_text, fault_text, no_fault, Tells};
+
 use bd_dev::{read_source, write_all};
 use bd_file::{FileSource, OutSink};
 use sh_parser::{SyntaxFault, SyntaxKind, parse};
@@ -39,7 +43,9 @@ fn path(rt: &(impl Env + AllocGlobal)) -> Result<String, Stop> {
 }
 
 /// What is said of a fault of this kind.
-fn named(kind: SyntaxKind) -> &'static str {
+fn named(kind: SyntaxKind) -> &'static str
+    ensures { result.now ≡ kind_text kind }
+{
     match kind {
         SyntaxKind::Unexpected => "unexpected",
         SyntaxKind::Unclosed => "unclosed",
@@ -50,16 +56,22 @@ fn named(kind: SyntaxKind) -> &'static str {
 }
 
 /// The line that tells of a fault.
-fn fault_line(alloc: Global, line: u64, kind: SyntaxKind) -> Result<String, AllocError> {
+fn fault_line(alloc: Global, line: u64, kind: SyntaxKind) -> Result<String, AllocError>
+    ensures { IfOk result (λ text. string_bytes text ≡ fault_text line kind) }
+{
     format!(in alloc; "line {line}: {}\n", named(kind))
 }
 
-fn sound_line(alloc: Global) -> Result<String, AllocError> {
+fn sound_line(alloc: Global) -> Result<String, AllocError>
+    ensures { IfOk result (λ text. string_bytes text ≡ no_fault) }
+{
     format!(in alloc; "no fault\n")
 }
 
 /// The line that is printed of an installer, and whether its script is a program.
-fn judged(alloc: Global, installer: &[u8]) -> Result<(String, bool), Stop> {
+fn judged(alloc: Global, installer: &[u8]) -> Result<(String, bool), Stop>
+    ensures { IfOk result (λ told. Tells installer.now (string_bytes told.0) told.1) }
+{
     let (script, _payload) = split(installer);
     if script.len() > LONGEST {
         return Err(Stop::Failed);

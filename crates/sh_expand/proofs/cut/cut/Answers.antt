@@ -1,8 +1,8 @@
-use Rattle.std.proofs.Common.{◌≡◌, Bool, true, false, refl, sym, ◌∙◌, subst}
-use Rattle.sh_expand.specs.Pattern.{items_of}
-use Rattle.sh_expand.specs.Cut.{IsCut}
+use Rattle.std.proofs.Common.{◌≡◌, Bool, Some, true, false, refl, sym, ◌∙◌, subst, length}
+use Rattle.sh_expand.specs.Scan.{items_in, text_in, spot, CutsTo}
 use Rattle.sh_expand.proofs.Fronts.{starts, keeps_star, keeps_byte, keeps_stuck, keeps_end, shortest, longest_end, no_more}
 use Rattle.sh_expand.proofs.Scans.{sized_start, sized_star, sized_byte, sized_later}
+use Rattle.sh_expand.proofs.Sides.{text_length}
 use Rattle.sh_expand.proofs.cut.cut.Goals as goal
 
 pub scan-init : goal.scan-init
@@ -22,17 +22,17 @@ scan-smaller-in-Byte c = (sized_byte _ _ _ _ _ c.scan.invariant.1 c.in-Byte.ensu
 
 pub returns-then-not-longest : goal.returns-then-not-longest
 returns-then-not-longest c =
-    subst (λ (b : Bool). IsCut (items_of c.args.pattern.now) c.args.text.now b c.scan.here.text.now) (sym c.if-not-longest.true)
-    (shortest _ _ _ _ _ c.scan.invariant.0 c.in-End.ensures.items (c.scan.invariant.2 c.if-not-longest.true))
+    subst (λ (b : Bool). CutsTo (items_in c.args.items) (text_in c.args.items c.args.text.now) b (Some (length c.scan.here.text.now))) (sym c.if-not-longest.true)
+    ((spot c.scan.here).text, shortest _ _ _ _ _ c.scan.invariant.0 c.in-End.ensures.items (c.scan.invariant.2 c.if-not-longest.true), text_length c.scan.here.items c.scan.here.text.now)
 
 pub returns-in_default : goal.returns-in_default
 returns-in_default c =
-    subst (λ (b : Bool). IsCut (items_of c.args.pattern.now) c.args.text.now b c.scan.here.text.now) (sym c.if-not-longest.false)
-    (longest_end _ _ _ _ _ c.scan.invariant.0 c.in-End.ensures.items c.in_default.ensures)
+    subst (λ (b : Bool). CutsTo (items_in c.args.items) (text_in c.args.items c.args.text.now) b (Some (length c.scan.here.text.now))) (sym c.if-not-longest.false)
+    ((spot c.scan.here).text, longest_end _ _ _ _ _ c.scan.invariant.0 c.in-End.ensures.items c.in_default.ensures, text_length c.scan.here.items c.scan.here.text.now)
 
 pub scan-preserved-in-End : goal.scan-preserved-in-End
 scan-preserved-in-End c = (
-  keeps_end _ _ _ _ _ c.scan.invariant.0 c.in-End.ensures.items _ _ refl c.in-Some.ensures,
+  keeps_end _ _ _ _ _ c.scan.invariant.0 c.in-End.ensures.items _ _ (sym (text_length c.scan.here.items c.scan.here.text.now)) c.in-Some.ensures,
   (sized_later _ _ _ _ _ c.scan.invariant.1 c.in-Some.ensures).0,
   λ e. let f : true ≡ false = sym c.if-not-longest.false ∙ e in cc,
 )

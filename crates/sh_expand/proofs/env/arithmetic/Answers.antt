@@ -1,4 +1,4 @@
-use Rattle.std.proofs.Common.{◌≡◌, refl, sym, ap, subst, Ok, Err, IsErr, ◌↔◌, ℤ, FitsSigned, w64, rules}
+use Rattle.std.proofs.Common.{◌≡◌, refl, ap, subst, Ok, Err, IsErr, ◌↔◌, ℤ, FitsSigned, w64, rules}
 use Rattle.std.proofs.lemmas.Int.{to_z-of_z}
 use Rattle.sh_arith.specs.Names.{Variables}
 use Rattle.sh_expand.specs.declared.fault.ExpandFault.TheVariants.{Bad}

@@ -1,5 +1,4 @@
-use Rattle.std.proofs.Common.{ap, length, arith, ◌∙◌, drop, take}
-use Rattle.std.specs.List.{prefix_len}
+use Rattle.std.proofs.Common.{ap, arith, ◌∙◌, drop, take}
 use Rattle.std.proofs.lemmas.List.Sums.{prefix_len-le-length}
 use Rattle.sh_expand.specs.Environment.{size}
 use Rattle.sh_expand.proofs.Variables.{differs, size_put}

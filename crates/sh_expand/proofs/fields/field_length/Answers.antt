@@ -1,4 +1,4 @@
-use Rattle.std.proofs.Common.{ℕ, sym, ap, ◌∙◌, not, arith, false}
+use Rattle.std.proofs.Common.{sym, ap, ◌∙◌, not, arith, false}
 use Rattle.std.proofs.lemmas.List.Sums.{prefix_len_is}
 use Rattle.sh_expand.specs.Fields.{is_delimiter}
 use Rattle.sh_expand.proofs.fields.field_length.Goals as goal

@@ -1,4 +1,4 @@
-use Rattle.std.proofs.Common.{◌≡◌, ◌∙◌, ap, sym, ◌∷◌}
+use Rattle.std.proofs.Common.{◌∙◌, ap, sym, ◌∷◌}
 use Rattle.sh_expand.specs.Pattern.{items_of, items_from}
 use Rattle.sh_expand.specs.Reading.{item_of}
 use Rattle.sh_expand.proofs.Items.{items_past}

@@ -1,4 +1,4 @@
-use Rattle.std.proofs.Common.{◌≡◌, ◌∙◌, ap, sym, ◌||◌}
+use Rattle.std.proofs.Common.{◌∙◌, ap, sym}
 use Rattle.sh_expand.specs.Pattern.{has}
 use Rattle.sh_expand.proofs.Items.{has_one, has_range}
 use Rattle.sh_expand.proofs.item.first_member.Goals as goal
